@@ -1,0 +1,15 @@
+pub mod Lists
+pub mod Keeping
+pub mod Tables
+pub mod Rows
+pub mod Records
+pub mod Graph
+pub mod Rings
+pub mod Spending
+pub mod Versions
+pub mod Writers
+pub mod Beating
+pub mod Answers
+pub mod Padding
+pub mod Raw
+pub mod Refusals

@@ -1,0 +1,15 @@
+pub mod Lists
+pub mod Graph
+pub mod State
+pub mod Versions
+pub mod Deps
+pub mod Spent
+pub mod Sound
+pub mod Machine
+pub mod Answers
+pub mod Raw
+pub mod Public
+pub mod Serial
+pub mod Book
+pub mod Parlour
+pub mod Index
