@@ -1,9 +1,9 @@
 -- What each public call does to lent tables: its answer, and all tables afterwards, whatever the tables hold. Assumes nothing.
-use Prim.Native.Nat.{ℕ}
+use Prim.Native.Nat.{ℕ, _^_}
 use mathlib.Core.Bool.{Bool, true, false, _&&_}
 use mathlib.Core.List.{List, [], _∷_}
 use lib.ListN.{length}
-use lib.Dec.{eqb}
+use lib.Dec.{eqb, ltb}
 use Rattle.terms.specs.declared.TxnNo.{TxnNo}
 use Rattle.terms.specs.declared.ItemNo.{ItemNo}
 use Rattle.terms.specs.declared.Answer.{Answer}
@@ -67,3 +67,13 @@ module _ (n m : ℕ) where
   unfoldable pub rawsOn : Raw → List Call → List Raw
   rawsOn w [] = []
   rawsOn w (x ∷ xs) = callOn x w .1 ∷ rawsOn (callOn x w .1) xs
+
+-- "Values 0 to 4,294,967,295": the call writes no larger one
+unfoldable pub inRange : Call → Bool
+inRange (Open c vs) = true
+inRange Begin = true
+inRange (Read t i) = true
+inRange (Write t i v) = ltb v (2 ^ 32)
+inRange (Commit t) = true
+inRange (Abort t) = true
+inRange (Latest i) = true

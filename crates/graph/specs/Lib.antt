@@ -1,0 +1,4 @@
+pub mod Sets
+pub mod Fill
+pub mod Reach
+pub mod Visit
