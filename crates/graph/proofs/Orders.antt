@@ -8,29 +8,18 @@ use lib.Dec.{T, eqb, eqb→eq, eqb-refl, T-not, not-T}
 use Rattle.rules.specs.Lists.{keep}
 use Rattle.rules.specs.Graph.{Nodes, Edges, Way, Reaches, Least, Least.least}
 use Rattle.graph.specs.Reach.{Reached}
-use Rattle.graph.proofs.Tests.{passes, failed}
 use Rattle.graph.proofs.Ways.{turned, back}
 use Rattle.laws.proofs.Graph.{Founded}
+use Rattle.laws.proofs.Lists as keeps
+use Rattle.graph.proofs.Tests.{failed, passes}
 
 -- ---- the nodes of a list that pass a test
 
 keep-out : (s : Nodes) (l : List ℕ) {y : ℕ} → List·Memᴰ y (keep s l) → List·Memᴰ y l × T (s y)
-keep-out s (x ∷ l) {y} m = go (s x) refl m (λ k. let r = keep-out s l k in (List·Memᴰ·tail (r .0), r .1))
-  where
-    go : (b : Bool) → s x ≡ b → List·Memᴰ y (elim b [ true ↦ x ∷ keep s l | false ↦ keep s l ])
-        → (List·Memᴰ y (keep s l) → List·Memᴰ y (x ∷ l) × T (s y)) → List·Memᴰ y (x ∷ l) × T (s y)
-    go true e m tail = ⊎-elim (λ q. (List·Memᴰ·head q, subst (λ (z : ℕ). T (s z)) (sym q) (passes e))) tail (List·Memᴰ·cases-cons m)
-    go false e m tail = tail m
+keep-out s l m = let u = keeps.keep-out s l m in (u .0, keeps.T-in (u .1))
 
 keep-in : (s : Nodes) (l : List ℕ) {y : ℕ} → List·Memᴰ y l → T (s y) → List·Memᴰ y (keep s l)
-keep-in s (x ∷ l) {y} m t = go (s x) refl (List·Memᴰ·cases-cons m) (λ k. keep-in s l k t)
-  where
-    go : (b : Bool) → s x ≡ b → (y ≡ x) ⊎ List·Memᴰ y l → (List·Memᴰ y l → List·Memᴰ y (keep s l))
-        → List·Memᴰ y (elim b [ true ↦ x ∷ keep s l | false ↦ keep s l ])
-    go true e (inl q) tail = List·Memᴰ·head q
-    go true e (inr k) tail = List·Memᴰ·tail (tail k)
-    go false e (inl q) tail = absurd (failed e (subst (λ (z : ℕ). T (s z)) q t))
-    go false e (inr k) tail = tail k
+keep-in s l {y} m t = keeps.keep-in s m (keeps.T-out (s y) t)
 
 -- ---- every edge goes forward
 

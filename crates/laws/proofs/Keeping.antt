@@ -1,6 +1,6 @@
 -- Laws of the kept part of a list, and of pairs, under other changes of the list. Assumes nothing.
 use Prim.Native.Nat.{ℕ}
-use mathlib.Core.Bool.{Bool, _&&_, _||_, false, true}
+use mathlib.Core.Bool.{Bool, _&&_, _||_, false, false≢true, true}
 use mathlib.Core.List.{List, List·Memᴰ·append-cases, List·Memᴰ·eq-of-singleton, List·Memᴰ·head, List·Memᴰ·tail, [], _++_, _∷_, map}
 use mathlib.Core.Logic.{_⊎_, inl, inr}
 use mathlib.Core.Path.{_∙_, _≡_, ap, refl, sym}
@@ -116,6 +116,14 @@ pairs-map f h (x ∷ xs) = λ j. alls xs j && pairs-map f h xs j
     alls (y ∷ ys) = ap {B = Bool} (λ k. f (h x) (h y) && k) (alls ys)
 
 -- what does not stand in the list
+-- where no element passes the test, none is found
+pub any-none : {A : Type 0} (p : A → Bool) (xs : List A) → ((x : A) → x ∈ xs → p x ≡ false) → any p xs ≡ false
+any-none p xs h = go (passed (any p xs))
+  where
+    go : (any p xs ≡ true) ⊎ (any p xs ≡ false) → any p xs ≡ false
+    go (inl t) = let u = any-out p xs t in absurd (false≢true (sym (h (u .0) (u .1)) ∙ u .2))
+    go (inr f) = f
+
 pub mem-not : (w : ℕ) (l : List ℕ) → (w ∈ l → ⊥) → mem w l ≡ false
 mem-not w l h = go (passed (mem w l))
   where

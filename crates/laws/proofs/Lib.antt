@@ -10,6 +10,6 @@ pub mod Versions
 pub mod Writers
 pub mod Beating
 pub mod Answers
-pub mod Padding
+pub mod Sames
 pub mod Raw
 pub mod Refusals

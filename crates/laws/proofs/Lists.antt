@@ -8,6 +8,7 @@ use native.Mathlib.Omega.{arith}
 use lib.Dec.{T, eqb}
 use lib.ListN.{length}
 use borrow.Author.Tests.{eq-eqb, eqb-false, eqb-true, not-true}
+use Rattle.lists.proofs.Keeps.{length-keep}
 use Rattle.rules.specs.Lists.{all, any, keep, mem, pairs, times}
 
 infix 40 _∈_
@@ -90,19 +91,10 @@ module _ {A : Type 0} (p : A → Bool) where
       go true e (List·Memᴰ·tail k) r = let u = r k in (List·Memᴰ·tail (u .0), u .1)
       go false e k r = let u = r k in (List·Memᴰ·tail (u .0), u .1)
 
-  -- fewer are kept than there are
-  pub length-keep : (xs : List A) → length (keep p xs) ≤ length xs
-  length-keep [] = omega arith
-  length-keep (x ∷ xs) = go (p x) (length-keep xs)
-    where
-      go : (b : Bool) → length (keep p xs) ≤ length xs → length {A = A} (elim b [ true ↦ x ∷ keep p xs | false ↦ keep p xs ]) ≤ suc (length xs)
-      go true h = omega arith
-      go false h = omega arith
-
   -- all are kept, or fewer
   pub keep-less : (xs : List A) → (keep p xs ≡ xs) ⊎ (length (keep p xs) < length xs)
   keep-less [] = inl refl
-  keep-less (x ∷ xs) = go (p x) (keep-less xs) (length-keep xs)
+  keep-less (x ∷ xs) = go (p x) (keep-less xs) (length-keep p xs)
     where
       go : (b : Bool) → (keep p xs ≡ xs) ⊎ (length (keep p xs) < length xs) → length (keep p xs) ≤ length xs
           → (_≡_ {A = List A} (elim b [ true ↦ x ∷ keep p xs | false ↦ keep p xs ]) (x ∷ xs))

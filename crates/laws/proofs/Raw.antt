@@ -17,7 +17,9 @@ use Rattle.rules.specs.State.{State}
 use Rattle.rules.specs.Sound.{sound}
 use Rattle.rules.specs.Raw.{Raw, pack, rawOf, sameRaw, sameRow, soundRaw, stateOf, unpack, zeroRow}
 use Rattle.laws.proofs.Lists.{_∈_, and-both, and-left, and-right}
-use Rattle.laws.proofs.Padding.{map-back, sames-in, sames-out, take-padded, until-padded}
+use Rattle.laws.proofs.Keeping.{any-none}
+use Rattle.laws.proofs.Sames.{map-back, sames-in, sames-out}
+use Rattle.lists.proofs.Pads.{take-padded, until-padded}
 
 -- ---- records as numbers
 pub pack-unpack : (p : ℕ) → pack (unpack p) ≡ p
@@ -88,9 +90,9 @@ unfolding stateOf rawOf
 state-raw n m s f =
     let v : take (s .count) (padded 256 0 (s .values)) ≡ s .values = ap (λ (k : ℕ). take k (padded 256 0 (s .values))) (sym (f .values)) ∙ take-padded 256 0 (s .values) in
     let w : take (s .count) (padded 256 0 (s .writers)) ≡ s .writers = ap (λ (k : ℕ). take k (padded 256 0 (s .writers))) (sym (f .writers)) ∙ take-padded 256 0 (s .writers) in
-    let r = until-padded (λ r. eqb (num r) 0) zeroRow refl n (s .rows) (λ r k. ne-eqb (num r) 0 (λ e. omega (arith, f .numbers k))) in
+    let r = until-padded (λ r. eqb (num r) 0) n zeroRow (s .rows) refl (any-none _ (s .rows) (λ r k. ne-eqb (num r) 0 (λ e. omega (arith, f .numbers k)))) in
     let x : map unpack (until (λ p. eqb p 0) (padded m 0 (map pack (s .recs)))) ≡ s .recs
-    = ap (map unpack) (until-padded (λ p. eqb p 0) 0 refl m (map pack (s .recs)) used) ∙ map-back pack unpack (s .recs) (λ y k. unpack-pack y (f .packs k)) in
+    = ap (map unpack) (until-padded (λ p. eqb p 0) m 0 (map pack (s .recs)) refl (any-none _ (map pack (s .recs)) used)) ∙ map-back pack unpack (s .recs) (λ y k. unpack-pack y (f .packs k)) in
     λ j. record { count = s .count; next = s .next; moment = s .moment; values = v j; writers = w j; rows = r j; recs = x j }
   where
     used : (p : ℕ) → p ∈ map pack (s .recs) → eqb p 0 ≡ false

@@ -9,7 +9,8 @@ use lib.Dec.{T, eqb}
 use lib.ListN.{length}
 use borrow.Author.Tests.{eq-eqb, eqb-true}
 use Rattle.laws.proofs.Graph.{Founded, cycle-map, founded-by, last-edge, more}
-use Rattle.laws.proofs.Lists.{T-in, T-out, _∈_, and-both, and-left, and-right, any-in, any-out, keep-in, keep-more, keep-out, length-keep, mem-in, mem-out, or-cases, or-left, or-right, passed, times-keeps, times-rest}
+use Rattle.laws.proofs.Lists.{T-in, T-out, _∈_, and-both, and-left, and-right, any-in, any-out, keep-in, keep-more, keep-out, mem-in, mem-out, or-cases, or-left, or-right, passed, times-keeps, times-rest}
+use Rattle.lists.proofs.Keeps.{length-keep}
 use Rattle.rules.specs.Deps.{Ring, dep, depends, reached, ring, spread}
 use Rattle.rules.specs.Graph.{Reaches, Way}
 use Rattle.rules.specs.Lists.{any, keep, mem}

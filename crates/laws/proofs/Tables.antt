@@ -7,6 +7,7 @@ use native.Mathlib.Nat.{zero-add}
 use native.Mathlib.Omega.{arith}
 use lib.ListN.{getD, length, length-map, replicate}
 use Rattle.laws.proofs.Lists.{_∈_, and-both}
+use Rattle.lists.proofs.Scans.{length-upfrom}
 use Rattle.rules.specs.Lists.{all, upfrom}
 
 -- an entry of a table made item by item
@@ -35,10 +36,6 @@ table (x ∷ l) k f h =
     let p : f k ≡ x = ap f (omega arith) ∙ h 0 (omega arith) in
     let q = table l (suc k) f (λ i b. ap f (omega arith) ∙ h (suc i) (omega arith)) in
     λ j. p j ∷ q j
-
-pub length-upfrom : (k n : ℕ) → length (upfrom k n) ≡ n
-length-upfrom k zero = refl
-length-upfrom k (suc n) = ap suc (length-upfrom (suc k) n)
 
 pub length-table : (f : ℕ → ℕ) (n : ℕ) → length (map f (upfrom 0 n)) ≡ n
 length-table f n = length-map (upfrom 0 n) f ∙ length-upfrom 0 n

@@ -30,3 +30,4 @@ pub mod Meaning
 pub mod Serializing
 pub mod LentRuns
 pub mod Demands
+pub mod Applied

@@ -7,7 +7,8 @@ use native.Mathlib.Omega.{arith}
 use lib.Dec.{eqb, leb}
 use lib.ListN.{length, length-append, length-map}
 use borrow.Author.Tests.{leb-false, ne-eqb}
-use Rattle.laws.proofs.Lists.{length-keep, pairs-keep}
+use Rattle.laws.proofs.Lists.{pairs-keep}
+use Rattle.lists.proofs.Keeps.{length-keep}
 use Rattle.laws.proofs.Records.{Below, Sorted, insert-more, insert-same}
 use Rattle.laws.proofs.Versions.{recorded-out}
 use Rattle.rules.specs.Deps.{Ring, beaten, ring}

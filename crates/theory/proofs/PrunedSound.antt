@@ -9,7 +9,8 @@ use lib.Dec.{eqb, ltb}
 use lib.ListN.{length, length-map}
 use borrow.Author.Tests.{eq-eqb, le-leb, ltb-false, ltb-true, ne-eqb}
 use Rattle.laws.proofs.Keeping.{keep-swap}
-use Rattle.laws.proofs.Lists.{_∈_, all-in, and-both, any-in, keep-out, length-keep, or-right, pairs-keep, passed}
+use Rattle.laws.proofs.Lists.{_∈_, all-in, and-both, any-in, keep-out, or-right, pairs-keep, passed}
+use Rattle.lists.proofs.Keeps.{length-keep}
 use Rattle.laws.proofs.Spending.{spent-decides, spent-from}
 use Rattle.laws.proofs.Tables.{mem-upfrom}
 use Rattle.laws.proofs.Versions.{Installed, Unwritten, Writer, between, commits-in, stands}

@@ -10,7 +10,8 @@ use lib.Dec.{eqb}
 use lib.ListN.{length}
 use Rattle.laws.proofs.Beating.{beaten-decides}
 use Rattle.laws.proofs.Keeping.{any-kept}
-use Rattle.laws.proofs.Lists.{_∈_, and-right, both-ways, length-keep, passed}
+use Rattle.laws.proofs.Lists.{_∈_, and-right, both-ways, passed}
+use Rattle.lists.proofs.Keeps.{length-keep}
 use Rattle.laws.proofs.Versions.{commits-out}
 use Rattle.rules.specs.Deps.{beaten}
 use Rattle.rules.specs.Machine.{Call, history, lowest, outcome, step, tables, tests, value}

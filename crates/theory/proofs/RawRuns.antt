@@ -23,7 +23,7 @@ use Rattle.rules.specs.Machine.{Abort, Begin, Call, Commit, Latest, Line, Open,
 use Rattle.rules.specs.Raw.{Raw, pack, rawOf, soundRaw, stateOf, zeroRow}
 use Rattle.rules.specs.Public.{callOn, fitting, inRange, lent, linesOn, onSound, openOn, rawsOn}
 use Rattle.laws.proofs.Lists.{_∈_, and-both, and-left, and-right, keep-out}
-use Rattle.laws.proofs.Padding.{length-padded}
+use Rattle.lists.proofs.Pads.{length-padded}
 use Rattle.laws.proofs.Raw.{Fits, held-in, state-raw}
 use Rattle.laws.proofs.Records.{insert-out}
 use Rattle.laws.proofs.Versions.{Installed, Unwritten}

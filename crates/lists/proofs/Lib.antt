@@ -1,0 +1,7 @@
+pub mod Inserts
+pub mod Keeps
+pub mod Untils
+pub mod Pads
+pub mod Changes
+pub mod Scans
+pub mod Loops
