@@ -17,6 +17,7 @@ use Rattle.terms.specs.Words.{active, committed, done, isRead, isWrite, item, n
 use Rattle.terms.specs.declared.Row.{Row}
 use Rattle.theory.proofs.Consequences.{one-row, row-is, row-of, rowless, standing}
 use Rattle.theory.proofs.Facts.{Facts}
+use Rattle.theory.proofs.Ways.{read-of}
 
 -- t is active
 abbrev pub Active : State → ℕ → Type 0
@@ -92,11 +93,10 @@ module _ (s : State) (v : Facts s) where
       go (inr d) =
           let x = any-out (λ x. eqb (txn x) t && isRead x && follows s (item x) (x .word) b) (s .recs) d in
           let z = simp and-eq-true-iff at (x .2) in
-          let same : rowOf (s .rows) (txn (x .0)) ≡ a .0 = row-is s v (a .1) (a .2 ∙ sym (eqb-true _ _ (z .0 .0))) in
           let comm : rowOf (s .rows) b ≡ u .0 = row-is s v (u .1) (u .3) in
           moved (item (x .0)) (start (a .0)) (v .within (x .1)) (record { here = u .1; ended = u .2; wrote = ap (λ (k : ℕ). wrote s k (item (x .0))) (u .3) ∙ z .1 .0 })
           (past (u .1) (spent-decides s _ .1 (subst (Spent s) (sym (u .3)) p)) a)
-          (ap (λ (q : Row). writer (versionAt s (item (x .0)) (done q))) (sym comm) ∙ eqb-true _ _ (z .1 .1) ∙ v .sees (x .1) (eqb-true _ _ (z .0 .1)) ∙ ap (λ (q : Row). writer (versionAt s (item (x .0)) (start q))) same)
+          (ap (λ (q : Row). writer (versionAt s (item (x .0)) (done q))) (sym comm) ∙ eqb-true _ _ (z .1 .1) ∙ read-of s v (a .1) (x .1) (eqb-true _ _ (z .0 .0) ∙ sym (a .2)) (eqb-true _ _ (z .0 .1)))
       go (inl d) = either (or-cases _ _ d)
         where
           either : (readsFrom s t b ≡ true) ⊎ (overwrites s t b ≡ true) → ⊥

@@ -3,6 +3,7 @@ pub mod Bare
 pub mod Pruning
 pub mod Facts
 pub mod Consequences
+pub mod Ways
 pub mod Actives
 pub mod PrunedDrop
 pub mod PrunedCommit
@@ -18,7 +19,6 @@ pub mod Refusing
 pub mod Agreeing
 pub mod RawRuns
 pub mod Sorting
-pub mod SerialOrder
 pub mod Acts
 pub mod Turns
 pub mod Frames
@@ -26,6 +26,8 @@ pub mod CallFrames
 pub mod Told
 pub mod ToldCalls
 pub mod SinceOpening
+pub mod EdgesSame
+pub mod EdgesRings
 pub mod Meaning
 pub mod Serializing
 pub mod LentRuns

@@ -151,7 +151,7 @@ module _ (s : State) (v : Facts s) (t : ℕ) (a : Active s t) where
       let p = ap (λ (q : Row). versionAt (committing s t) i (done q)) (u .0) ∙ version-commit i (commitOf s b) (omega (arith, u .1)) in
       λ j. same-recorded b i 2 j && eqb (writer (p j)) w
 
-  dep-commit : {b : ℕ} (c : ℕ) → b ∈ commits s → dep (committing s t) c b ≡ dep s c b
+  pub dep-commit : {b : ℕ} (c : ℕ) → b ∈ commits s → dep (committing s t) c b ≡ dep s c b
   unfolding dep readsFrom overwrites readBefore committing
   dep-commit {b} c m =
       λ j. not (eqb c b) && (any (λ x. eqb (txn x) b && isRead x && eqb (x .word) c) (s .recs)

@@ -1,34 +1,37 @@
 -- The pruned state of a lawful one is sound. Assumes nothing.
-use Prim.Native.Nat.{_+_, _<_, _≤_, suc, zero, ℕ}
-use mathlib.Core.Bool.{Bool, _&&_, _||_, false, false≢true, not, true}
+use Prim.Native.Nat.{_+_, _<_, _≤_, ℕ}
+use mathlib.Core.Bool.{Bool, false, false≢true, not, true}
 use mathlib.Core.List.{Memᴰ·of-map, map}
 use mathlib.Core.Logic.{_⊎_, inl, inr}
-use mathlib.Core.Path.{_∙_, _≡_, ap, subst, sym}
+use mathlib.Core.Path.{_∙_, _≡_, ap, refl, subst, sym}
 use native.Mathlib.Omega.{arith}
-use lib.Dec.{eqb, ltb}
+use lib.Dec.{ltb}
 use lib.ListN.{length, length-map}
-use borrow.Author.Tests.{eq-eqb, le-leb, ltb-false, ltb-true, ne-eqb}
+use borrow.Author.Tests.{le-leb, ltb-false, ltb-true}
+use Rattle.laws.proofs.Graph.{least-back}
 use Rattle.laws.proofs.Keeping.{keep-swap}
-use Rattle.laws.proofs.Lists.{_∈_, all-in, and-both, any-in, keep-out, or-right, pairs-keep, passed}
+use Rattle.laws.proofs.Lists.{_∈_, all-in, and-both, keep-out, pairs-keep, passed}
 use Rattle.lists.proofs.Keeps.{length-keep}
-use Rattle.laws.proofs.Spending.{spent-decides, spent-from}
+use Rattle.laws.proofs.Spending.{spent-decides}
 use Rattle.laws.proofs.Tables.{mem-upfrom}
-use Rattle.laws.proofs.Versions.{Installed, Unwritten, Writer, between, commits-in, stands}
-use Rattle.rules.specs.Deps.{Ring, dep, follows, overwrites, readBefore, readsFrom}
+use Rattle.laws.proofs.Versions.{Installed, Unwritten, Writer, recorded-in, stands}
+use Rattle.rules.specs.Deps.{Ring}
+use Rattle.rules.specs.Graph.{Way}
 use Rattle.rules.specs.Lists.{keep, upfrom}
 use Rattle.rules.specs.Sound.{lean, sized, sound}
 use Rattle.rules.specs.Spent.{forget, isSpent, prune}
-use Rattle.rules.specs.State.{State, commitOf, commits, startOf}
-use Rattle.rules.specs.Versions.{installers, versionAt, visible}
-use Rattle.terms.specs.Words.{active, committed, done, isRead, item, key, num, start, txn, writer}
+use Rattle.rules.specs.State.{State, commits, startOf}
+use Rattle.rules.specs.Versions.{versionAt, visible}
+use Rattle.terms.specs.Words.{active, committed, done, item, key, num, start, txn, writer}
 use Rattle.terms.specs.declared.Rec.{Rec}
 use Rattle.terms.specs.declared.Row.{Row}
 use Rattle.theory.proofs.Actives.{idle, past}
 use Rattle.theory.proofs.Bare.{sizes-forget}
-use Rattle.theory.proofs.Consequences.{behind, row-is, row-of, rowed, rowless, standing}
+use Rattle.theory.proofs.Consequences.{behind, row-is, rowed, rowless}
 use Rattle.theory.proofs.Facts.{Facts, lawful-from}
 use Rattle.theory.proofs.Forgetting.{commits-forget-out, goneOf, recs-out, row-forget, rowed-gone, rows-in, rows-out, version-forget, writer-forget-out}
 use Rattle.theory.proofs.Pruning.{ring-out, spent-forget-out}
+use Rattle.theory.proofs.Ways.{to-writer}
 
 module _ (g : ℕ → Bool) (s : State) (f : Facts s) where
   less-commits : length (commits (forget g s)) ≤ length (commits s)
@@ -77,38 +80,12 @@ module _ (s : State) (v : Facts s) where
 
   -- ---- what is read
 
-  -- the forgotten versions of an item that a kept transaction read stand before its start
-  module _ {x : Rec} (mx : x ∈ s .recs) (rx : x .kind ≡ 1) {r : Row} (mr : r ∈ s .rows) (cr : committed r ≡ true) (er : num r ≡ txn x) (left : isSpent s (num r) ≡ false) where
-    -- none can be the first after the start
-    first-after : {c : Row} → Writer s (item x) c → isSpent s (num c) ≡ true → start r ≤ done c → ((q : Row) → q ∈ installers s (item x) (done c) → done q < start r) → ⊥
-    unfolding dep readBefore follows visible
-    first-after {c} w h l n = false≢true (sym left ∙ spent-decides s (num r) .1 (spent-from s (spent-decides s (num c) .0 h) (commits-in s mr cr) edge))
-      where
-        there : writer (versionAt s (item x) (commitOf s (num c))) ≡ x .word
-        there =
-            ap (λ (q : Row). writer (versionAt s (item x) (done q))) (row-of s v (w .here))
-            ∙ ap writer (between s (item x) (start r) (done c) l n)
-            ∙ ap (λ (q : Row). writer (versionAt s (item x) (start q))) (sym (row-of s v mr)) ∙ ap (λ (k : ℕ). writer (visible s k (item x))) er ∙ sym (v .sees mx rx)
-
-        edge : dep s (num r) (num c) ≡ true
-        edge =
-            and-both _ _ (ap not (ne-eqb _ _ (λ e. false≢true (sym left ∙ ap (isSpent s) e ∙ h))))
-            (or-right (readsFrom s (num r) (num c) || overwrites s (num r) (num c)) _
-            (any-in (λ y. eqb (txn y) (num r) && isRead y && follows s (item y) (y .word) (num c)) mx
-            (and-both _ _ (and-both _ _ (eq-eqb _ _ (sym er)) (eq-eqb _ _ rx)) (and-both _ _ (w .wrote) (eq-eqb _ _ there)))))
-
-    past-read : (n : ℕ) {c : Row} → done c < n → Writer s (item x) c → isSpent s (num c) ≡ true → start r ≤ done c → ⊥
-    past-read zero f w h l = omega arith
-    past-read (suc n) {c} f w h l = go (standing s v (item x) (done c)) (λ q d u hq k. past-read n d u hq k)
-      where
-        go : Unwritten s (item x) (done c) ⊎ ((q : Row) × Installed s (item x) (done c) q)
-            → ((q : Row) → done q < n → Writer s (item x) q → isSpent s (num q) ≡ true → start r ≤ done q → ⊥) → ⊥
-        go (inl k) again = first-after w h l (λ q m. absurd (k .none q m))
-        go (inr (q, k)) again = pick (passed (ltb (done q) (start r)))
-          where
-            pick : (ltb (done q) (start r) ≡ true) ⊎ (ltb (done q) (start r) ≡ false) → ⊥
-            pick (inl t) = first-after w h l (λ z m. omega (arith, k .last z m, ltb-true (done q) (start r) t))
-            pick (inr t) = again q (omega (arith, k .early)) (k .by) (behind s v (item x) q c (k .by) w h (k .early)) (ltb-false _ _ t)
+  -- the forgotten versions of an item that a kept transaction read stand before its start: a way would lead from it to one that is spent
+  past-read : {x : Rec} → x ∈ s .recs → x .kind ≡ 1 → {r c : Row} → r ∈ s .rows → committed r ≡ true → num r ≡ txn x → isSpent s (num r) ≡ false
+      → Writer s (item x) c → isSpent s (num c) ≡ true → start r < done c → ⊥
+  past-read {x} mx rx {r} {c} mr cr er left w h l =
+      let u = to-writer s v (item x) mr cr (recorded-in s (num r) (item x) 1 mx (sym er) refl rx) w (λ e. false≢true (sym left ∙ ap (isSpent s) e ∙ h)) l in
+      false≢true (sym left ∙ spent-decides s (num r) .1 (least-back (Way.step (u .1) (u .2)) (spent-decides s (num c) .0 h)))
 
   -- the version that a kept record's transaction sees is the same
   sees-kept : {x : Rec} → x ∈ s .recs → x .kind ≡ 1 → isSpent s (txn x) ≡ false → visible p (txn x) (item x) ≡ visible s (txn x) (item x)
@@ -124,7 +101,7 @@ module _ (s : State) (v : Facts s) where
         where
           decide : (ltb (done c) (start r) ≡ true) ⊎ (ltb (done c) (start r) ≡ false) → done c < start r
           decide (inl y) = ltb-true _ _ y
-          decide (inr y) = absurd (past-read mx rx mr (ap not t) e (ap (isSpent s) e ∙ f) (suc (done c)) (omega arith) w h (ltb-false _ _ y))
+          decide (inr y) = let no : done c ≡ start r → ⊥ = v .cross (w .here) (w .ended) mr in absurd (past-read mx rx mr (ap not t) e (ap (isSpent s) e ∙ f) w h (omega (arith, ltb-false (done c) (start r) y)))
 
   -- the writers in the value tables have no row
   based-kept : (k : ℕ) → k ∈ p .writers → (k < s .next) × (k ∈ map num (p .rows) → ⊥)

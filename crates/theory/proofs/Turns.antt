@@ -25,8 +25,8 @@ use Rattle.terms.specs.declared.Version.{Version}
 use Rattle.theory.proofs.Acts.{Acts, fits-append, leaves-append}
 use Rattle.theory.proofs.Consequences.{row-of, standing}
 use Rattle.theory.proofs.Facts.{Facts}
-use Rattle.theory.proofs.SerialOrder.{later, older, read-from, visible-at}
 use Rattle.theory.proofs.Sorting.{Ordered, once-of, sort, sort-in, sort-ordered, sort-out}
+use Rattle.theory.proofs.Ways.{climbs, from-writer, to-later, to-writer, visible-at}
 
 pub commits-ascend : (s : State) → Facts s → pairs ltb (commits s) ≡ true
 unfolding commits
@@ -141,19 +141,21 @@ module _ (s : State) (inv : Facts s) (rk : ℕ → ℕ) (rises : (i : ℕ) (q r 
 
 module _ (s : State) (inv : Facts s) (free : ¬ Ring s) (ls : List Line) (of : (t : Row) → t ∈ s .rows → Acts s (num t) (acts (num t) ls)) where
   in-rank : (i : ℕ) (q r : Row) → Writer s i q → Writer s i r → done q < done r → rank s free (num q) < rank s free (num r)
-  in-rank i q r wq wr l = older s inv free (done r) i (omega arith) wq wr l
+  in-rank i q r wq wr l = climbs s free (num q) (to-later s inv i wq wr l)
 
   -- at its turn a transaction finds the versions that it saw
   at-turn : (l k : List ℕ) (m : Store) (t : Row) (i : ℕ) → Turn s inv (rank s free) in-rank l k (num t) t → hasRead s (num t) i ≡ true → Holds s inv (rank s free) in-rank l m i → m i ≡ visible s (num t) i .value
   at-turn l k m t i n rt h =
-      holds-at s inv (rank s free) in-rank l m i (start t) early (λ c p. n .others (num c) (commits-in s (p .by .here) (p .by .ended)) (read-from s inv free i (n .here) (n .ended) rt p)) h
-      ∙ sym (ap (λ (p : Version). p .value) (visible-at s inv free i (n .here) (n .ended) rt))
+      holds-at s inv (rank s free) in-rank l m i (start t) early (λ c p. n .others (num c) (commits-in s (p .by .here) (p .by .ended)) (climbs s free (num c) (from-writer s inv i (n .here) (n .ended) rt (p .by) (p .early)))) h
+      ∙ sym (ap (λ (p : Version). p .value) (visible-at s inv i (n .here) (n .ended) rt))
     where
       early : (r : Row) → Writer s i r → num r ∈ l → done r < start t
       early r w mr = pick (passed (ltb (start t) (done r)))
         where
           pick : (ltb (start t) (done r) ≡ true) ⊎ (ltb (start t) (done r) ≡ false) → done r < start t
-          pick (inl q) = absurd (⊎-elim (λ e. n .lower (num r) mr .1 e) (λ o. omega (arith, n .lower (num r) mr .0, o)) (later s inv free i (n .here) (n .ended) rt (done r) (omega arith) w (ltb-true _ _ q)))
+          pick (inl q) =
+              let u = n .lower (num r) mr in
+              absurd (omega (arith, u .0, climbs s free (num t) (to-writer s inv i (n .here) (n .ended) rt w (λ e. u .1 (sym e)) (ltb-true _ _ q))))
           pick (inr q) = let ne : done r ≡ start t → ⊥ = λ e. inv .cross (w .here) (w .ended) (n .here) e in omega (arith, ltb-false (start t) (done r) q)
 
   -- the committed transactions by rank

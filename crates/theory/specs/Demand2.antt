@@ -1,5 +1,4 @@
--- Demand 2, of machines of any sizes, n rows and m records: the table machine, which forgets the spent transactions, does what the
--- history machine does, which forgets nothing. And what the history machine's answers mean, in the words of the definitions. Assumes nothing.
+-- Demand 2, of machines of any sizes: the table machine does what the history machine does, and what the answers mean. Assumes nothing.
 use Rattle.rules.specs.Deps
 use Prim.Native.Nat.{_≤_, ℕ}
 use mathlib.Core.Bool.{false, true}
@@ -23,7 +22,8 @@ use Rattle.terms.specs.declared.Version.{Version}
 abbrev pub Openable : List ℕ → Type 0
 Openable vs = (1 ≤ length vs) × (length vs ≤ 256)
 
--- Both machines, called alike from one state, give the same lines, and the tables stand after each call as the history pruned.
+-- The table machine forgets the spent transactions, and the history machine forgets nothing. Called alike from one state, both give the
+-- same lines, and the tables stand after each call as the history pruned. The machines have n rows and m records.
 abbrev pub SameFrom : ℕ → ℕ → State → List Call → Type 0
 SameFrom n m s xs = (lines (tables n m) s xs ≡ lines (history n m) s xs) × (states (tables n m) s xs ≡ map prune (states (history n m) s xs))
 

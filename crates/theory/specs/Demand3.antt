@@ -1,5 +1,4 @@
--- Demand 3, of both machines, of any sizes: after any calls since the last accepted opening, whatever its values, with refused calls among
--- them, the committed transactions have a serial order. It is read from the calls and their answers alone. Assumes nothing.
+-- Demand 3, of both machines, of any sizes: since the last accepted opening the committed transactions have a serial order. Assumes nothing.
 use Prim.Native.Nat.{_<_, _≤_, ℕ}
 use mathlib.Core.Bool.{false}
 use mathlib.Core.List.{List, _++_, _∷_}
@@ -12,8 +11,8 @@ use Rattle.rules.specs.State.{State, opened}
 use Rattle.rules.specs.Versions.{latest}
 use Rattle.terms.specs.declared.Answer.the-variants.{Accepted}
 
--- what some lines since an opening with the values vs say, where s is the state after them: there is a serial order, and the newest
--- committed value of each item, by the lines, is its latest value
+-- What some lines since an opening with the values vs say, with refused calls among them, where s is the state after them: there is a
+-- serial order, and the newest committed value of each item, by the lines alone, is its latest value.
 abbrev pub SerialSince : List ℕ → List Line → State → Type 0
 SerialSince vs ls s =
     ((order : List ℕ) × Serial vs ls order) × ((i : ℕ) → i < length vs → newestPut ls i (getD vs i 0) (committers ls) ≡ latest s i)
