@@ -56,7 +56,8 @@ pub use Rattle.rules.specs.Raw.{pack, unpack, Raw, zeroRow, usedRows, us
 -- fitting: the tables have the board's lengths
 -- openOn, beginOn, readOn, writeOn, commitOn, abortOn, latestOn: what each public call does to lent tables
 -- onSound, callOn, linesOn, rawsOn: a call that asks for sound tables, any of the seven, and some one after the other
-pub use Rattle.rules.specs.Public.{fitting, lent, onSound, openOn, beginOn, readOn, writeOn, commitOn, abortOn, latestOn, callOn, linesOn, rawsOn}
+-- inRange: the call writes no value above 4,294,967,295
+pub use Rattle.rules.specs.Public.{fitting, lent, onSound, openOn, beginOn, readOn, writeOn, commitOn, abortOn, latestOn, callOn, linesOn, rawsOn, inRange}
 -- opens, opening, told, committers, acts, inTurn: accepted openings, committed transactions and their acts, by the lines
 -- Store, leaves, Fits, newestPut, Serial: a serial run of them gives every value read and each item's newest value
 pub use Rattle.rules.specs.Serial.{opens, opening, told, committer, Act, act, committers, acts, inTurn, Store, stored, leaves, Fits, lastPut, newestPut, Serial}
