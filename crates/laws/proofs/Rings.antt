@@ -11,22 +11,30 @@ use borrow.Author.Tests.{eq-eqb, eqb-true}
 use Rattle.laws.proofs.Graph.{Founded, cycle-map, founded-by, last-edge, more}
 use Rattle.laws.proofs.Lists.{T-in, T-out, _∈_, and-both, and-left, and-right, any-in, any-out, keep-in, keep-more, keep-out, mem-in, mem-out, or-cases, or-left, or-right, passed, times-keeps, times-rest}
 use Rattle.lists.proofs.Keeps.{length-keep}
-use Rattle.rules.specs.Deps.{Ring, dep, depends, reached, ring, spread}
-use Rattle.rules.specs.Graph.{Reaches, Way}
+use Rattle.rules.specs.Deps.{Ring, among, dep, depends, reached, ring, spread}
+use Rattle.rules.specs.Graph.{Edges, Reaches, Way}
 use Rattle.rules.specs.Lists.{any, keep, mem}
 use Rattle.rules.specs.State.{State, commits}
+
+-- edges between committed transactions, of any kind
+module _ (s : State) (e : Edges) where
+  pub among-in : {a b : ℕ} → a ∈ commits s → b ∈ commits s → e a b ≡ true → T (among s e a b)
+  among-in ma mb d = T-in (and-both _ _ (and-both _ _ (mem-in _ _ ma) (mem-in _ _ mb)) d)
+
+  pub among-out : (a b : ℕ) → T (among s e a b) → (a ∈ commits s) × (b ∈ commits s) × (e a b ≡ true)
+  among-out a b t =
+      let h = T-out (among s e a b) t in
+      let m = and-left _ _ h in
+      (mem-out a (commits s) (and-left _ _ m), mem-out b (commits s) (and-right (mem a (commits s)) _ m), and-right (mem a (commits s) && mem b (commits s)) _ h)
 
 module _ (s : State) where
   pub depends-in : {a b : ℕ} → a ∈ commits s → b ∈ commits s → dep s a b ≡ true → T (depends s a b)
   unfolding depends
-  depends-in ma mb d = T-in (and-both _ _ (and-both _ _ (mem-in _ _ ma) (mem-in _ _ mb)) d)
+  depends-in ma mb d = among-in s (dep s) ma mb d
 
   pub depends-out : (a b : ℕ) → T (depends s a b) → (a ∈ commits s) × (b ∈ commits s) × (dep s a b ≡ true)
   unfolding depends
-  depends-out a b t =
-      let h = T-out (depends s a b) t in
-      let m = and-left _ _ h in
-      (mem-out a (commits s) (and-left _ _ m), mem-out b (commits s) (and-right (mem a (commits s)) _ m), and-right (mem a (commits s) && mem b (commits s)) _ h)
+  depends-out a b t = among-out s (dep s) a b t
 
   -- a way starts and ends at committed ones
   pub starts : (a : ℕ) {b : ℕ} → Reaches (depends s) a b → a ∈ commits s

@@ -48,9 +48,12 @@ readBefore s a b = any (λ x. eqb (txn x) a && isRead x && follows s (item x) (x
 unfoldable pub dep : State → Edges
 dep s a b = not (eqb a b) && (readsFrom s a b || overwrites s a b || readBefore s a b)
 
--- the dependencies between committed transactions; the opening is none
+-- the edges between committed transactions; the opening is none
+abbrev pub among : State → Edges → Edges
+among s e a b = mem a (commits s) && mem b (commits s) && e a b
+
 unfoldable pub depends : State → Edges
-depends s a b = mem a (commits s) && mem b (commits s) && dep s a b
+depends s = among s (dep s)
 
 -- "Ring: the committed transactions .. have a dependency cycle."
 abbrev pub Ring : State → Type 0

@@ -32,9 +32,10 @@ pub use Rattle.rules.specs.State.{State, opened, closed, withRows, withR
 -- readValue, afterRead, afterWrite, latest: what a read, a write and a look at the latest value give and leave
 pub use Rattle.rules.specs.Versions.{newest, installers, baseOf, versionAt, visible, Installer, LatestBefore, Visible, readValue, afterRead, afterWrite, latest}
 -- bothWrote, beaten, Beaten: two wrote one item; a committed one after t's start wrote an item that t wrote
--- follows, readsFrom, overwrites, readBefore, dep, depends: immediate successors, the three dependencies, any of them, and between committed ones
+-- follows, readsFrom, overwrites, readBefore, dep: immediate successors, the three dependencies, and any of them
+-- among, depends: edges between committed transactions, and the dependencies between them
 -- Ring, ring: the committed transactions have a dependency cycle, as a proposition and as a test
-pub use Rattle.rules.specs.Deps.{bothWrote, beaten, Beaten, follows, readsFrom, overwrites, readBefore, dep, depends, Ring, spread, reached, ring}
+pub use Rattle.rules.specs.Deps.{bothWrote, beaten, Beaten, follows, readsFrom, overwrites, readBefore, dep, among, depends, Ring, spread, reached, ring}
 -- old, Spent, isSpent: committed before every active start; the least set of spent ones, as a proposition and as a test
 -- forget, prune: the state without some transactions, their versions passed into the value tables; without the spent ones
 pub use Rattle.rules.specs.Spent.{old, Spent, sift, unspent, isSpent, forget, prune}

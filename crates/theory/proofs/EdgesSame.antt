@@ -7,7 +7,7 @@ use native.Mathlib.Omega.{arith}
 use lib.Dec.{T, eqb, ltb}
 use borrow.Author.Tests.{eq-eqb, eqb-false, eqb-true, lt-ltb, ltb-false, ltb-true, not-true}
 use Rattle.laws.proofs.Lists.{T-in, T-out, _∈_, and-both, and-left, and-right, any-in, any-out, mem-in, mem-out, or-cases, or-left, or-right, passed}
-use Rattle.laws.proofs.Rings.{depends-out}
+use Rattle.laws.proofs.Rings.{among-in, among-out, depends-out}
 use Rattle.laws.proofs.Versions.{Installed, Unwritten, Writer, commits-out, recorded-in, recorded-out}
 use Rattle.rules.specs.Deps.{dep, depends, follows, overwrites, readBefore, readsFrom}
 use Rattle.rules.specs.Graph.{Reaches}
@@ -36,14 +36,11 @@ module _ (s : State) where
 
   pub edges-in : {a b : ℕ} → a ∈ commits s → b ∈ commits s → edge s a b ≡ true → T (edges s a b)
   unfolding edges
-  edges-in ma mb d = T-in (and-both _ _ (and-both _ _ (mem-in _ _ ma) (mem-in _ _ mb)) d)
+  edges-in ma mb d = among-in s (edge s) ma mb d
 
   pub edges-out : (a b : ℕ) → T (edges s a b) → (a ∈ commits s) × (b ∈ commits s) × (edge s a b ≡ true)
   unfolding edges
-  edges-out a b t =
-      let h = T-out (edges s a b) t in
-      let m = and-left _ _ h in
-      (mem-out a (commits s) (and-left _ _ m), mem-out b (commits s) (and-right (mem a (commits s)) _ m), and-right (mem a (commits s) && mem b (commits s)) _ h)
+  edges-out a b t = among-out s (edge s) a b t
 
 -- ---- each edge is a way of dependencies
 module _ (s : State) (v : Facts s) where

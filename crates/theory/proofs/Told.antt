@@ -113,6 +113,20 @@ module _ (vs : List ℕ) (ls : List Line) (s : State) (so : Told vs ls s) (t i :
   small : i < 256
   small = omega (arith, so .inv .counts .1)
 
+  -- a record of t and item i is put in, of any kind and word
+  module _ (kind word : ℕ) (narrow : kind < 256) where
+    abbrev entered : State
+    entered = withRecs s (insert (rec t i kind word) (s .recs))
+
+    entered-has : (j k : ℕ) → recorded entered t j k ≡ (recorded s t j k || isRec t j k (rec t i kind word))
+    entered-has j k = enter-recorded s (so .inv) (rec t i kind word) (small, narrow) on t j k
+
+    entered-same : (j : ℕ) → visible entered t j .value ≡ visible s t j .value
+    entered-same j = ap (λ (p : Version). p .value) (enter-visible s (so .inv) (rec t i kind word) (small, narrow) on j)
+
+    entered-was : (j k : ℕ) → recorded s t j k ≡ true → recorded entered t j k ≡ true
+    entered-was j k q = entered-has j k ∙ or-left _ _ q
+
   -- a read record is made
   module _ (un : wrote s t i ≡ false) where
     abbrev pub read-rec : Rec
@@ -142,13 +156,13 @@ module _ (vs : List ℕ) (ls : List Line) (s : State) (so : Told vs ls s) (t i :
         z = withRecs s (insert read-rec (s .recs))
 
         has : (j k : ℕ) → recorded z t j k ≡ (recorded s t j k || isRec t j k read-rec)
-        has j k = enter-recorded s inv read-rec fit on t j k
+        has = entered-has 1 (writer (visible s t i)) (omega arith)
 
         same : (j : ℕ) → visible z t j .value ≡ visible s t j .value
-        same j = ap (λ (p : Version). p .value) (enter-visible s inv read-rec fit on j)
+        same = entered-same 1 (writer (visible s t i)) (omega arith)
 
         was : (j k : ℕ) → recorded s t j k ≡ true → recorded z t j k ≡ true
-        was j k q = has j k ∙ or-left _ _ q
+        was = entered-was 1 (writer (visible s t i)) (omega arith)
 
         now : (j : ℕ) → hasRead z t i ≡ true
         now j = has i 1 ∙ or-right (hasRead s t i) _ (and-both _ _ (and-both _ _ (eq-eqb t t refl) (eq-eqb i i refl)) refl)
@@ -188,13 +202,13 @@ module _ (vs : List ℕ) (ls : List Line) (s : State) (so : Told vs ls s) (t i :
         z = withRecs s (insert write-rec (s .recs))
 
         has : (j k : ℕ) → recorded z t j k ≡ (recorded s t j k || isRec t j k write-rec)
-        has j k = enter-recorded s inv write-rec fit on t j k
+        has = entered-has 2 v (omega arith)
 
         same : (j : ℕ) → visible z t j .value ≡ visible s t j .value
-        same j = ap (λ (p : Version). p .value) (enter-visible s inv write-rec fit on j)
+        same = entered-same 2 v (omega arith)
 
         was : (j k : ℕ) → recorded s t j k ≡ true → recorded z t j k ≡ true
-        was j k q = has j k ∙ or-left _ _ q
+        was = entered-was 2 v (omega arith)
 
         elsewhere : (j : ℕ) → (i ≡ j → ⊥) → isRec t j 2 write-rec ≡ false
         elsewhere j n = ⊎-elim (λ q. absurd (n (eqb-true i j (and-right (eqb t t) _ (and-left (eqb t t && eqb i j) _ q))))) (λ q. q) (passed (isRec t j 2 write-rec))

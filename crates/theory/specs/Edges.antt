@@ -5,7 +5,7 @@ use mathlib.Core.List.{List·Memᴰ}
 use mathlib.Core.Logic.{_↔_}
 use mathlib.Core.Path.{_≡_}
 use lib.Dec.{eqb, ltb}
-use Rattle.rules.specs.Deps.{Ring, beaten, depends}
+use Rattle.rules.specs.Deps.{Ring, among, beaten, depends}
 use Rattle.rules.specs.Graph.{Cycle, Edges, Least, Reaches, Way}
 use Rattle.rules.specs.Lists.{any, mem}
 use Rattle.rules.specs.Sound.{lawful, tested}
@@ -23,7 +23,7 @@ edge s a b = not (eqb a b) && ((touches s a b && ltb (startOf s a) (commitOf s b
 
 -- the edges between committed transactions
 unfoldable pub edges : State → Edges
-edges s a b = mem a (commits s) && mem b (commits s) && edge s a b
+edges s = among s (edge s)
 
 -- ---- what is proved of them: on states that pass the tests there are the same ways, the same rings and the same spent ones
 abbrev pub WaysSame : Type 0

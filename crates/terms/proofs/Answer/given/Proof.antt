@@ -1,86 +1,65 @@
+-- `terms::Answer::given` meets its contract: for each variant, what the match hands out is what `paper` says. Assumes nothing.
 use borrow.Author.Needs.{needs}
 use Rattle.terms.proofs.Answer.given.Statement.{statement}
 use Rattle.terms.proofs.Answer.given.Tie as tie
-use Rattle.terms.proofs.Answer.given.Reads as reads
-use Rattle.terms.proofs.Answer.given.Lts as lts
 
--- src/lib.rt:97:30
 enum-known-self : tie.Need-enum-known-self
 enum-known-self c = search needs
 
--- src/lib.rt:98:38
 enum-told : tie.Need-enum-told
 enum-told c = search needs
 
--- src/lib.rt:99:36
 enum-told-2 : tie.Need-enum-told-2
 enum-told-2 c = search needs
 
--- src/lib.rt:100:34
 enum-told-3 : tie.Need-enum-told-3
 enum-told-3 c = search needs
 
--- src/lib.rt:101:38
 enum-told-4 : tie.Need-enum-told-4
 enum-told-4 c = search needs
 
--- src/lib.rt:102:33
 enum-told-5 : tie.Need-enum-told-5
 enum-told-5 c = search needs
 
--- src/lib.rt:103:36
 enum-told-6 : tie.Need-enum-told-6
 enum-told-6 c = search needs
 
--- src/lib.rt:104:31
 enum-told-7 : tie.Need-enum-told-7
 enum-told-7 c = search needs
 
--- src/lib.rt:105:35
 enum-told-8 : tie.Need-enum-told-8
 enum-told-8 c = search needs
 
--- src/lib.rt:106:35
 enum-told-9 : tie.Need-enum-told-9
 enum-told-9 c = search needs
 
--- src/lib.rt:93:5
 returns : tie.Need-returns
 returns c = cc
 
--- src/lib.rt:93:5
 returns-2 : tie.Need-returns-2
 returns-2 c = cc
 
--- src/lib.rt:93:5
 returns-3 : tie.Need-returns-3
 returns-3 c = cc
 
--- src/lib.rt:93:5
 returns-4 : tie.Need-returns-4
 returns-4 c = cc
 
--- src/lib.rt:93:5
 returns-5 : tie.Need-returns-5
 returns-5 c = cc
 
--- src/lib.rt:93:5
 returns-6 : tie.Need-returns-6
 returns-6 c = cc
 
--- src/lib.rt:93:5
 returns-7 : tie.Need-returns-7
 returns-7 c = cc
 
--- src/lib.rt:93:5
 returns-8 : tie.Need-returns-8
 returns-8 c = cc
 
--- src/lib.rt:93:5
 returns-9 : tie.Need-returns-9
 returns-9 c = cc
 
--- src/lib.rt:93:5
 returns-10 : tie.Need-returns-10
 returns-10 c = cc
 
