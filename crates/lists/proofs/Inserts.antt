@@ -1,4 +1,4 @@
--- Putting an element in and taking a block out: lengths, parts, and what a map makes of them. Assumes nothing.
+-- Putting an element in: lengths, parts, and what a map makes of it. Assumes nothing.
 use Prim.Native.Nat.{ℕ, zero, suc, _≤_}
 use native.Mathlib.Nat.{le-of-suc-le-suc, not-suc-le-zero, max-eq-left, max-eq-right}
 use native.Mathlib.Omega.{arith}
@@ -6,7 +6,7 @@ use mathlib.Core.Path.{_≡_, refl, ap}
 use mathlib.Core.List.{List, [], _∷_, _++_, map}
 use lib.ListN.{length, take, drop, length-take, take-append-drop}
 use lib.Seq.{take-append-seam}
-use Rattle.lists.specs.Tables.{insertAt, insertIn, removeBlock}
+use Rattle.lists.specs.Tables.{insertAt, insertIn}
 
 module _ {A : Type 0} where
   pub length-insert : (n : ℕ) (r : A) (xs : List A) → length (insertAt n r xs) ≡ suc (length xs)
@@ -48,12 +48,3 @@ module _ {A : Type 0} where
   map-insert f zero r xs = refl
   map-insert f (suc n) r [] = refl
   map-insert {B} f (suc n) r (x ∷ xs) = ap (λ (l : List B). f x ∷ l) (map-insert f n r xs)
-
-  pub remove-is : (f t : ℕ) (xs : List A) → f ≤ t → removeBlock f t xs ≡ take f xs ++ drop t xs
-  unfolding removeBlock
-  remove-is f t xs h = rw (max-eq-right h)
-
-  -- a block that ends before it begins is empty
-  pub remove-none : (f t : ℕ) (xs : List A) → t ≤ f → removeBlock f t xs ≡ xs
-  unfolding removeBlock
-  remove-none f t xs h = rw (max-eq-left h) (take-append-drop f xs)

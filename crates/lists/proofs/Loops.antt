@@ -10,8 +10,8 @@ use mathlib.Core.List.{List, [], _∷_, _++_, append-nil}
 use lib.ListN.{length, getD, set, take, drop, length-set, length-take, take-append-drop, drop-of-length-le}
 use lib.Seq.{take-suc-set, take-all, drop-cons, append-snoc, drop-set-lt}
 use Rattle.rules.specs.Lists.{padded, keep}
-use Rattle.lists.specs.Tables.{insertAt, insertIn, removeBlock, changed}
-use Rattle.lists.proofs.Inserts.{insert-in-past, remove-is}
+use Rattle.lists.specs.Tables.{insertAt, insertIn, changed}
+use Rattle.lists.proofs.Inserts.{insert-in-past}
 use Rattle.lists.proofs.Keeps.{put}
 use Rattle.lists.proofs.Pads.{padded-end, padded-full}
 use Rattle.lists.proofs.Changes.{changed-none}
@@ -59,15 +59,6 @@ module _ {A : Type 0} where
     pub clear-done : length xs ≤ i → xs ≡ padded (length xs₀) z (take f xs₀)
     clear-done l = sym (ap (padded (length xs₀) z) (take-all i xs l) ∙ padded-full (length xs₀) z xs (omega (arith, s .len))) ∙ s .same
 
-  -- ---- the elements from index f up to t of xs₀ go out: so far those below i are written, and those from j on are unread
-  pub record Moving (xs₀ : List A) (f t : ℕ) (xs : List A) (i j : ℕ) : Type 0 where
-    pub len : length xs ≡ length xs₀
-    pub order : i ≤ j
-    pub same : take i xs ++ drop j xs ≡ take f xs₀ ++ drop t xs₀
-
-  pub move-start : {xs : List A} {f t : ℕ} → f ≤ t → Moving xs f t xs f t
-  move-start h = record { len = refl; order = h; same = refl }
-
   -- the element at j is written to i
   written : (i j : ℕ) (d : A) (xs ys : List A) → i ≤ j → j < length xs
       → take (suc i) (set xs i (getD xs j d)) ++ ys ≡ take i xs ++ getD xs j d ∷ ys
@@ -75,23 +66,6 @@ module _ {A : Type 0} where
 
   unread : (i j : ℕ) (a : A) (xs : List A) → i ≤ j → drop (suc j) (set xs i a) ≡ drop (suc j) xs
   unread i j a xs h = drop-set-lt (suc j) xs i a (omega arith)
-
-  module _ {xs₀ : List A} {f t : ℕ} {xs : List A} {i j : ℕ} (s : Moving xs₀ f t xs i j) where
-    pub move-next : (d : A) → j < length xs → Moving xs₀ f t (set xs i (getD xs j d)) (i + 1) (j + 1)
-    move-next d l =
-        record {
-          len = length-set xs i (getD xs j d) ∙ s .len;
-          order = omega (arith, s .order);
-          same = rw (add-one i, add-one j)
-              (ap (λ (ys : List A). take (suc i) (set xs i (getD xs j d)) ++ ys) (unread i j (getD xs j d) xs (s .order))
-              ∙ written i j d xs (drop (suc j) xs) (s .order) l ∙ ap (λ (ys : List A). take i xs ++ ys) (sym (drop-cons xs j d l)) ∙ s .same);
-        }
-
-    -- and then the table is cleared from i on
-    pub move-done : (z : A) {ys : List A} → f ≤ t → length xs ≤ j → ys ≡ padded (length xs) z (take i xs) → ys ≡ padded (length xs₀) z (removeBlock f t xs₀)
-    move-done z h l e =
-        e ∙ ap₂ (λ (n : ℕ) (l : List A). padded n z l) (s .len)
-        (sym (append-nil (take i xs)) ∙ ap (λ (l : List A). take i xs ++ l) (sym (drop-of-length-le xs l)) ∙ s .same ∙ sym (remove-is f t xs₀ h))
 
   -- ---- the elements of xs₀ that pass p stay: so far those below i are written, and those from j on are unread
   pub record Keeping (p : A → Bool) (xs₀ xs : List A) (i j : ℕ) : Type 0 where

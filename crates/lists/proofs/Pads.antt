@@ -8,7 +8,7 @@ use mathlib.Core.List.{List, [], _∷_, _++_, map, map-append, append-nil, appen
 use lib.ListN.{length, getD, take, drop, set, replicate, length-append, length-replicate, length-take, length-drop, length-set, length-map, replicate-append-replicate}
 use lib.Seq.{take-append-seam, take-append-add, take-append-le, drop-append-le, set-append-left}
 use Rattle.rules.specs.Lists.{any, all, keep, until, padded}
-use Rattle.lists.specs.Tables.{insertAt, insertIn, removeBlock, firstIndex}
+use Rattle.lists.specs.Tables.{insertAt, insertIn, firstIndex}
 use Rattle.lists.proofs.Inserts.{length-insert, insert-append}
 use Rattle.lists.proofs.Keeps.{put, keep-append, length-keep}
 use Rattle.lists.proofs.Untils.{stop, until-all}
@@ -114,15 +114,6 @@ module _ {A : Type 0} where
 
   pub padded-take : (n f : ℕ) (z : A) (xs : List A) → f ≤ length xs → padded n z (take f (padded n z xs)) ≡ padded n z (take f xs)
   padded-take n f z xs h = ap (padded n z) (take-append-le f xs (replicate (n - length xs) z) h)
-
-  pub padded-remove : (n f t : ℕ) (z : A) (xs : List A) → f ≤ length xs → t ≤ length xs → length xs ≤ n → padded n z (removeBlock f t (padded n z xs)) ≡ padded n z (removeBlock f t xs)
-  unfolding removeBlock
-  padded-remove n f t z xs hf ht h =
-      let zs = replicate (n - length xs) z in
-      let m : max f t ≤ length xs = omega arith in
-      ap (padded n z)
-      (ap₂ _++_ (take-append-le f xs zs hf) (drop-append-le (max f t) xs zs m) ∙ sym (append-assoc (take f xs) (drop (max f t) xs) zs))
-      ∙ padded-end n (n - length xs) z (take f xs ++ drop (max f t) xs) (simp (length-append, length-take, length-drop) (omega arith))
 
   pub padded-kept : (p : A → Bool) (n : ℕ) (z : A) (xs : List A) → length xs ≤ n → padded n z (keep p (padded n z xs)) ≡ padded n z (keep p xs)
   padded-kept p n z xs h = go (p z) refl

@@ -1,5 +1,5 @@
--- Tables as lists: an element put in at a place, a block taken out, the first place that passes, each element changed at its place. Assumes nothing.
-use Prim.Native.Nat.{ℕ, zero, suc, max}
+-- Tables as lists: an element put in at a place, the first place that passes, each element changed at its place. Assumes nothing.
+use Prim.Native.Nat.{ℕ, zero, suc}
 use mathlib.Core.Bool.{Bool, cond}
 use mathlib.Core.List.{List, [], _∷_, _++_}
 use lib.ListN.{length, take, drop}
@@ -14,10 +14,6 @@ module _ {A : Type 0} where
   -- the same in a table, whose length stays: the last element is dropped
   unfoldable pub insertIn : ℕ → A → List A → List A
   insertIn n r xs = take (length xs) (insertAt n r xs)
-
-  -- xs without its elements from index f up to, not including, index t
-  unfoldable pub removeBlock : ℕ → ℕ → List A → List A
-  removeBlock f t xs = take f xs ++ drop (max f t) xs
 
   -- the index of the first element that passes the test, or the length
   unfoldable pub firstIndex : (A → Bool) → List A → ℕ

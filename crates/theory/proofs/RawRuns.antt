@@ -100,7 +100,7 @@ module _ (n m : ℕ) (s : State) (w : Narrow s) where
 -- ---- a sound state with such records fits the tables
 module _ (s : State) (f : Facts s) where
   -- the writer of a version was given its number
-  writer-given : (i m : ℕ) → i < s .count → writer (versionAt s i m) < s .next
+  pub writer-given : (i m : ℕ) → i < s .count → writer (versionAt s i m) < s .next
   writer-given i m l = go (standing s f i m)
     where
       go : Unwritten s i m ⊎ ((c : Row) × Installed s i m c) → writer (versionAt s i m) < s .next

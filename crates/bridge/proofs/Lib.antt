@@ -1,0 +1,5 @@
+pub mod Packs
+pub mod Wholes
+pub mod Holds
+pub mod Changed
+pub mod HeldChanges
