@@ -1,0 +1,12 @@
+pub mod Marks
+pub mod Cuts
+pub mod Indexes
+pub mod Timings
+pub mod Draws
+pub mod Places
+pub mod Rowed
+pub mod Blocked
+pub mod Touching
+pub mod Telling
+pub mod Limits
+pub mod Spending

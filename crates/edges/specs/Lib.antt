@@ -1,0 +1,5 @@
+pub mod Blocks
+pub mod Times
+pub mod Drawn
+pub mod Spent
+pub mod Told

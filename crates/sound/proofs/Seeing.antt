@@ -1,0 +1,177 @@
+-- The highest row of an item's writers that ended before a row started is the one whose version the row sees. Assumes nothing.
+use Prim.Native.Nat.{ℕ, zero, suc, _+_, _*_, _^_, _≤_, _<_}
+use native.Mathlib.Omega.{arith}
+use native.Mathlib.Decide.{decLt, ℕ-discrete}
+use native.Mathlib.Nat.{pow-suc}
+use mathlib.Core.Bool.{Bool, true, false, not, _&&_, _||_, cond, false≢true}
+use mathlib.Core.Logic.{_⊎_, inl, inr}
+use mathlib.Core.Path.{_≡_, refl, sym, ap, subst, _∙_}
+use mathlib.Core.List.{List, map, Memᴰ·map, Memᴰ·of-map}
+use lib.Bits.{bitAnd}
+use lib.Dec.{eqb, ltb}
+use lib.ListN.{length, getD, take}
+use lib.Count.{leading-top}
+use lib.Pow.{pow-mono, pow-pos}
+use borrow.Author.Tests.{eq-eqb, eqb-true, lt-ltb, ltb-true, ne-eqb}
+use Rattle.terms.specs.declared.Row.{Row}
+use Rattle.terms.specs.declared.Rec.{Rec}
+use Rattle.terms.specs.Words.{committed, done, isRead, isWrite, item, num, start, txn, writer}
+use Rattle.rules.specs.Lists.{all, any, upfrom}
+use Rattle.rules.specs.State.{State, rowOf, startOf, wrote}
+use Rattle.rules.specs.Versions.{versionAt, visible}
+use Rattle.rules.specs.Sound.{seen, unmixed}
+use Rattle.rules.specs.Raw.{unpack, zeroRow}
+use Rattle.laws.proofs.Lists.{_∈_, all-in, all-out, and-both, and-left, and-right, both-ways, passed}
+use Rattle.laws.proofs.Rows.{row-found}
+use Rattle.laws.proofs.Tables.{mem-upfrom}
+use Rattle.laws.proofs.Versions.{Installed, Unwritten, Writer, recorded-out, stands, writer-in}
+use Rattle.graph.specs.Fill.{Tabled}
+use Rattle.graph.specs.Sets.{edges, member}
+use Rattle.graph.proofs.Sets.{member-and, member-zero}
+use Rattle.sound.specs.Items.{Installers, at, earlierThan, installs, names, namesAll, newestOf, top}
+use Rattle.sound.specs.Parts.{held}
+use Rattle.sound.specs.Records.{Owners}
+use Rattle.sound.proofs.ItemTests.{names-other, names-read, top-in, top-last}
+use Rattle.sound.proofs.Places.{in-index, index-in, row-rising}
+use Rattle.sound.proofs.Standing.{Ranked, in-upfrom, installs-in, installs-out, start-rising}
+use Rattle.sound.proofs.Unmixing.{clashless}
+
+-- a number is below its power of two; so a set whose members are below w is
+below-power : (m : ℕ) → m < 2 ^ m
+below-power zero = omega arith
+below-power (suc m) = let h = below-power m in omega (arith, pow-suc 2 m)
+
+pub set-small : (w m : ℕ) → ((j : ℕ) → member m j ≡ true → j < w) → m < 2 ^ w
+set-small w zero h = pow-pos w
+set-small w (suc m) h =
+    let u = leading-top (suc m) (suc m) (omega arith) (below-power (suc m)) in
+    let t = top-in (suc m) (suc m) (omega arith) (below-power (suc m)) in
+    let same : top (suc m) (suc m) ≡ u .0 = omega (arith, u .1) in
+    let l : u .0 < w = h (u .0) (ap (member (suc m)) (sym same) ∙ t) in
+    omega (arith, u .3, pow-mono l)
+
+module _ (w count next moment n m : ℕ) (vs ws writers numbers : List ℕ) (rs : List Row) (ps os inst early : List ℕ) (hn : n ≤ length rs) (hm : m ≤ length ps) (few : n ≤ w)
+    (k : Ranked (held count next moment vs ws (take n rs) (take m ps))) (un : unmixed (held count next moment vs ws (take n rs) (take m ps)) ≡ true)
+    (own : Owners n m rs ps os) (ins : Installers 256 n rs (take m ps) inst) (ea : Tabled n early (earlierThan rs))
+    (nums : (i : ℕ) → i < n → getD numbers i 0 ≡ num (at rs i))
+    (bases : (t : ℕ) → t < m → getD ws (item (unpack (getD ps t 0))) 0 ≡ getD writers (item (unpack (getD ps t 0))) 0) where
+  abbrev S : State
+  S = held count next moment vs ws (take n rs) (take m ps)
+
+  early-at : (i j : ℕ) → i < n → j < n → member (getD early i 0) j ≡ earlierThan rs i j
+  unfolding edges
+  early-at i j a b = ea .is i j a b
+
+  module _ (t : ℕ) (lt : t < m) where
+    abbrev p : ℕ
+    p = getD ps t 0
+
+    abbrev e : ℕ
+    e = item (unpack (getD ps t 0))
+
+    abbrev o : ℕ
+    o = getD os t 0
+
+    abbrev M : ℕ
+    M = bitAnd (getD inst (item (unpack (getD ps t 0))) 0) (getD early (getD os t 0) 0)
+
+    small : e < 256
+    small = omega arith
+
+    -- a row of the set is a writer that ended before
+    in-out : (j : ℕ) → member M j ≡ true → (j < n) × (committed (at rs j) ≡ true) × (wrote S (num (at rs j)) e ≡ true) × (done (at rs j) < start (at rs o))
+    unfolding earlierThan
+    in-out j h =
+        let b = sym (member-and (getD inst e 0) (getD early o 0) j) ∙ h in
+        let u = installs-out count next moment n m vs ws rs ps hn e j (sym (ins .is e j small) ∙ and-left _ _ b) in
+        (u .0, u .1, u .2, ltb-true _ _ (sym (early-at o j (own .inside t lt) (u .0)) ∙ and-right (member (getD inst e 0) j) _ b))
+
+    out-in : (j : ℕ) → j < n → committed (at rs j) ≡ true → wrote S (num (at rs j)) e ≡ true → done (at rs j) < start (at rs o) → member M j ≡ true
+    unfolding earlierThan
+    out-in j l c h b =
+        member-and (getD inst e 0) (getD early o 0) j
+        ∙ and-both _ _ (ins .is e j small ∙ installs-in count next moment n m vs ws rs ps hn e j l c h) (early-at o j (own .inside t lt) l ∙ lt-ltb _ _ b)
+
+    fits : M < 2 ^ w
+    fits = set-small w M (λ j h. omega (arith, in-out j h .0))
+
+    started : startOf S (txn (unpack p)) ≡ start (at rs o)
+    started =
+        ap (λ (x : ℕ). start (rowOf (take n rs) x)) (sym (own .is t lt)) ∙ ap start (row-found (take n rs) (k .ascend) (in-index zeroRow n rs hn o (own .inside t lt)))
+
+    -- a writer that ended before is in the set
+    standing : (c : Row) → Writer S e c → done c < start (at rs o) → (q : ℕ) × (q < n) × (at rs q ≡ c) × (member M q ≡ true)
+    standing c y b =
+        let q = index-in zeroRow n rs hn (y .here) in
+        (q .0, q .1, q .2, out-in (q .0) (q .1) (ap committed (q .2) ∙ y .ended) (ap (λ (r : Row). wrote S (num r) e) (q .2) ∙ y .wrote) (omega (arith, ap done (q .2))))
+
+    seen-row : newestOf w numbers M (getD writers e 0) ≡ writer (versionAt S e (start (at rs o)))
+    unfolding newestOf
+    seen-row = go (ℕ-discrete M 0) (stands S (k .known) e (start (at rs o)))
+      where
+        pick : (b : Bool) → eqb M 0 ≡ b → newestOf w numbers M (getD writers e 0) ≡ cond b (getD writers e 0) (getD numbers (top w M) 0)
+        pick b h = ap (λ (x : Bool). cond x (getD writers e 0) (getD numbers (top w M) 0)) h
+
+        -- of two writers in the set the higher ended later
+        later : (q h : ℕ) → q < h → h < n → committed (at rs q) ≡ true → wrote S (num (at rs q)) e ≡ true → committed (at rs h) ≡ true → wrote S (num (at rs h)) e ≡ true → done (at rs h) ≤ done (at rs q) → ⊥
+        later q h l b cq wq ch wh d =
+            let mq = in-index zeroRow n rs hn q (omega arith) in
+            let mh = in-index zeroRow n rs hn h b in
+            let rise = start-rising count next moment n m vs ws rs ps hn k q h l b in
+            let eh = k .ends mh ch in
+            let x = recorded-out S (num (at rs q)) e 2 wq in
+            clashless S k un mq cq mh ch (row-rising n rs hn (k .ascend) q h l b) (x .0) (x .1) (x .2) (eq-eqb _ _ (x .4)) (ap (λ (y : ℕ). wrote S (num (at rs h)) y) (x .3) ∙ wh) (omega arith) (omega arith)
+
+        order : (c : Row) (i : ℕ) → i < n → committed (at rs i) ≡ true → wrote S (num (at rs i)) e ≡ true → ((j : ℕ) → i < j → member M j ≡ false)
+            → (q : ℕ) → q < n → at rs q ≡ c → member M q ≡ true → done (at rs i) ≤ done c → i ≡ q
+        order c i li ci wi f q lq eq mq d = pair (decLt q i) (decLt i q)
+          where
+            pair : Dec (q < i) → Dec (i < q) → i ≡ q
+            pair (yes l) r = let u = in-out q mq in absurd (later q i l li (u .1) (u .2) ci wi (omega (arith, ap done eq)))
+            pair (no l) (yes r) = absurd (false≢true (sym (f q r) ∙ mq))
+            pair (no l) (no r) = omega arith
+
+        go : Dec (M ≡ 0) → Unwritten S e (start (at rs o)) ⊎ ((c : Row) × Installed S e (start (at rs o)) c) → newestOf w numbers M (getD writers e 0) ≡ writer (versionAt S e (start (at rs o)))
+        go (yes z) (inl u) = pick true (eq-eqb M 0 z) ∙ sym (bases t lt) ∙ sym (ap writer (u .is))
+        go (yes z) (inr (c, u)) =
+            let q = standing c (u .by) (u .early) in
+            absurd (false≢true (sym (member-zero (q .0)) ∙ ap (λ (y : ℕ). member y (q .0)) (sym z) ∙ q .3))
+        go (no z) (inl u) =
+            let h = in-out (top w M) (top-in w M (omega arith) fits) in
+            absurd (u .none (at rs (top w M)) (writer-in S e (start (at rs o)) (record { here = in-index zeroRow n rs hn (top w M) (h .0); ended = h .1; wrote = h .2 }) (h .3)))
+        go (no z) (inr (c, u)) =
+            let i = top w M in
+            let h = in-out i (top-in w M (omega arith) fits) in
+            let q = standing c (u .by) (u .early) in
+            let last = u .last (at rs i) (writer-in S e (start (at rs o)) (record { here = in-index zeroRow n rs hn i (h .0); ended = h .1; wrote = h .2 }) (h .3)) in
+            pick false (ne-eqb M 0 z) ∙ nums i (h .0) ∙ ap num (ap (at rs) (order c i (h .0) (h .1) (h .2) (top-last w M (omega arith) fits) (q .0) (q .1) (q .2) (q .3) last) ∙ q .2) ∙ sym (ap writer (u .is))
+
+    -- the word of a read
+    names-is : names w numbers writers inst early p o ≡ (not (isRead (unpack p)) || eqb (unpack p .word) (writer (visible S (txn (unpack p)) e)))
+    unfolding visible
+    names-is = go (ℕ-discrete (unpack p .kind) 1)
+      where
+        go : Dec (unpack p .kind ≡ 1) → names w numbers writers inst early p o ≡ (not (isRead (unpack p)) || eqb (unpack p .word) (writer (versionAt S e (startOf S (txn (unpack p))))))
+        go (no z) =
+            names-other w numbers writers inst early p o z
+            ∙ sym (ap (λ (b : Bool). not b || eqb (unpack p .word) (writer (versionAt S e (startOf S (txn (unpack p)))))) (ne-eqb (unpack p .kind) 1 z))
+        go (yes z) =
+            names-read w numbers writers inst early p o z
+            ∙ ap (eqb (unpack p .word)) (seen-row ∙ ap (λ (x : ℕ). writer (versionAt S e x)) (sym started))
+            ∙ sym (ap (λ (b : Bool). not b || eqb (unpack p .word) (writer (versionAt S e (startOf S (txn (unpack p)))))) (eq-eqb (unpack p .kind) 1 z))
+
+  abbrev sees : Rec → Bool
+  sees x = not (isRead x) || eqb (x .word) (writer (visible S (txn x) (item x)))
+
+  -- the equation
+  pub seen-is : namesAll w m ps os numbers writers inst early ≡ seen (held count next moment vs ws (take n rs) (take m ps))
+  unfolding namesAll seen
+  seen-is =
+      both-ways _ _
+      (λ h. all-in sees (map unpack (take m ps)) (λ x mx.
+      let v = Memᴰ·of-map unpack (take m ps) mx in
+      let t = index-in 0 m ps hm (v .1) in
+      ap sees (sym (ap unpack (t .2) ∙ v .2)) ∙ sym (names-is (t .0) (t .1)) ∙ all-out (λ y. names w numbers writers inst early (getD ps y 0) (getD os y 0)) (in-upfrom 0 m (t .0) (omega arith) (omega (arith, t .1))) h))
+      (λ h. all-in _ (upfrom 0 m) (λ t mt.
+      let l : t < m = omega (arith, mem-upfrom 0 m mt) in
+      names-is t l ∙ all-out sees (Memᴰ·map unpack (in-index 0 m ps hm t l)) h))

@@ -1,0 +1,10 @@
+-- The sentence on the writers in the value tables, over the numbers of the rows. Assumes nothing.
+use Prim.Native.Nat.{ℕ}
+use mathlib.Core.Bool.{Bool, not, _&&_}
+use mathlib.Core.List.{List}
+use lib.Dec.{ltb}
+use Rattle.rules.specs.Lists.{all, mem}
+
+-- each writer is below the next number and none of the numbers
+unfoldable pub basedOn : ℕ → List ℕ → List ℕ → Bool
+basedOn next ns ws = all (λ w. ltb w next && not (mem w ns)) ws
