@@ -2,26 +2,26 @@
 use Prim.Native.Nat.{ℕ, zero, suc, _+_, _≤_, _<_}
 use native.Mathlib.Decide.{decLt, ℕ-discrete}
 use native.Mathlib.Omega.{arith}
-use mathlib.Core.Bool.{Bool, true, false, not, _&&_, false≢true}
-use mathlib.Core.List.{List, List·Memᴰ·head, List·Memᴰ·tail, [], _∷_, map, Memᴰ·map, List·Memᴰ}
+use mathlib.Core.Bool.{Bool, true, false, not, _&&_}
+use mathlib.Core.List.{List, [], _∷_, Memᴰ·map, List·Memᴰ}
 use mathlib.Core.Path.{_≡_, refl, sym, ap, subst, _∙_}
 use lib.Dec.{eqb, ltb, leb}
-use lib.ListN.{length, getD, drop, take, length-take, length-drop}
-use lib.Seq.{drop-drop, getD-take}
-use borrow.Author.Tests.{eq-eqb, eqb-true, eqb-false, ne-eqb, ltb-true, le-leb, leb-true, lt-leb}
-use Rattle.rules.specs.Lists.{all, keep, pairs, until}
-use Rattle.rules.specs.Raw.{unpack, usedRows, usedRecs, zeroRow}
+use lib.ListN.{length, drop, length-drop}
+use lib.Seq.{drop-drop}
+use borrow.Author.Tests.{eqb-true, eqb-false, ne-eqb, ltb-true, le-leb, leb-true}
+use Rattle.rules.specs.Lists.{all, keep, pairs}
+use Rattle.rules.specs.Raw.{unpack, usedRecs, zeroRow}
 use Rattle.rules.specs.State.{State}
 use Rattle.terms.specs.Words.{num, txn, key}
 use Rattle.terms.specs.declared.Row.{Row}
 use Rattle.lists.specs.Tables.{firstIndex}
-use Rattle.lists.proofs.Untils.{until-first, length-until, stop}
+use Rattle.lists.proofs.Untils.{stop}
 use Rattle.lists.proofs.Keeps.{put}
-use Rattle.laws.proofs.Lists.{_∈_, all-in, all-out, and-both, and-left, and-right, both-ways, keep-keep, keep-out, keep-same, pairs-keep, passed}
+use Rattle.laws.proofs.Lists.{_∈_, all-in, all-out, and-both, and-left, and-right, both-ways, keep-keep, keep-out, keep-same, pairs-keep}
 use Rattle.laws.proofs.Keeping.{keep-all, keep-none, pairs-weaken}
 use Rattle.laws.proofs.Raw.{unpack-packs}
 use Rattle.theory.proofs.Facts.{Facts}
-use Rattle.edges.specs.Blocks.{at, usedCount, foreign, front, begin, block}
+use Rattle.edges.specs.Blocks.{at, foreign, front, begin, block}
 use Rattle.edges.specs.Told.{Holds}
 use Rattle.edges.proofs.Indexes.{first-most}
 use Rattle.edges.proofs.Places.{in-place, pairs-mapped, place-in, first-until, until-until}

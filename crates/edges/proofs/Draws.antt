@@ -1,25 +1,24 @@
 -- Drawing the edges from the index: the rows that a row meets, which of them are taken, and the loop over the rows. Assumes nothing.
 use Prim.Native.Nat.{ℕ, _+_, _-_, _^_, _≤_, _<_}
 use native.Mathlib.Decide.{ℕ-discrete, decLt}
-use native.Mathlib.Numerals.{add-one, add-one-le}
+use native.Mathlib.Numerals.{add-one}
 use native.Mathlib.Omega.{arith}
 use mathlib.Core.Bool.{Bool, true, false, not, _&&_, _||_, or-false, or-assoc, and-false}
-use mathlib.Core.List.{List, [], _∷_}
+use mathlib.Core.List.{List, _∷_}
 use mathlib.Core.Path.{_≡_, refl, sym, ap, subst, _∙_}
 use lib.Bits.{bitOr, bitAnd}
 use lib.Dec.{eqb, ltb, leb}
-use lib.ListN.{length, getD, set, drop, take, replicate, length-set, length-replicate, drop-of-length-le}
+use lib.ListN.{length, getD, set, drop, replicate, length-set, length-replicate, drop-of-length-le}
 use lib.Seq.{drop-cons, getD-set-same, getD-set-other}
 use lib.Pow.{pow-pos}
 use borrow.Author.Tests.{eq-eqb, ne-eqb, lt-ltb, le-ltb, le-leb, lt-leb}
-use Rattle.rules.specs.Lists.{any}
 use Rattle.rules.specs.Raw.{unpack}
 use Rattle.terms.specs.Words.{item, isWrite}
 use Rattle.graph.specs.Sets.{member, outside}
 use Rattle.graph.proofs.Sets.{member-zero, member-one, member-or, member-and, member-ones, member-past, member-outside}
 use Rattle.edges.specs.Blocks.{has}
-use Rattle.edges.specs.Drawn.{meets, metBy, Meets, span, picked, drawn, Drawing, Drawn}
-use Rattle.edges.proofs.Indexes.{ltb-next, ltb-here, ltb-self, has-zeros}
+use Rattle.edges.specs.Drawn.{meets, metBy, Meets, span, picked, drawn, Drawn}
+use Rattle.edges.proofs.Indexes.{ltb-next, ltb-here, has-zeros}
 
 -- ---- the rows that a row meets: k records are looked at
 pub record Meeting (w : ℕ) (tab ps : List ℕ) (t b k : ℕ) : Type 0 where

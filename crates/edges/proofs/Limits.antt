@@ -8,7 +8,7 @@ use mathlib.Core.Path.{_≡_, refl, sym, ap, _∙_}
 use lib.Dec.{eqb, ltb, leb}
 use lib.ListN.{length}
 use borrow.Author.Tests.{ne-eqb, lt-ltb, le-ltb, le-leb, lt-leb, ltb-true}
-use Rattle.rules.specs.Lists.{all, pairs, until}
+use Rattle.rules.specs.Lists.{all, pairs}
 use Rattle.rules.specs.Raw.{usedRows, zeroRow}
 use Rattle.terms.specs.Words.{num, start, active, committed}
 use Rattle.terms.specs.declared.Row.{Row}

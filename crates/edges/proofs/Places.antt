@@ -1,16 +1,14 @@
 -- Lists by place: what stands at a place, places in order, and lists up to a stop. Assumes nothing.
 use Prim.Native.Nat.{ℕ, zero, suc, _≤_, _<_}
-use native.Mathlib.Decide.{decLt}
 use native.Mathlib.Omega.{arith}
 use mathlib.Core.Bool.{Bool, true, false, cond, _&&_, _||_}
 use mathlib.Core.List.{List, List·Memᴰ·head, List·Memᴰ·tail, [], _∷_, map}
-use mathlib.Core.Path.{_≡_, refl, sym, ap, _∙_}
-use lib.Dec.{eqb, ltb}
-use lib.ListN.{length, getD, drop, take, List·getD-eq-default}
+use mathlib.Core.Path.{_≡_, refl, sym, ap}
+use lib.ListN.{length, getD, drop}
 use Rattle.rules.specs.Lists.{any, all, pairs, until}
 use Rattle.lists.specs.Tables.{firstIndex}
 use Rattle.lists.proofs.Untils.{stop}
-use Rattle.laws.proofs.Lists.{_∈_, all-out, and-both, and-left, and-right, any-in, any-out, both-ways}
+use Rattle.laws.proofs.Lists.{_∈_, all-out, and-left, and-right}
 
 module _ {A : Type 0} (d : A) where
   pub place-in : (xs : List A) (i : ℕ) → i < length xs → getD xs i d ∈ xs

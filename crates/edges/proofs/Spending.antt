@@ -16,7 +16,7 @@ use Rattle.rules.specs.Spent.{Spent, isSpent, old}
 use Rattle.rules.specs.State.{State, commits}
 use Rattle.terms.specs.Words.{num, start, done, active, committed}
 use Rattle.terms.specs.declared.Row.{Row}
-use Rattle.laws.proofs.Lists.{T-in, T-out, _∈_, and-both, and-left, and-right, both-ways, mem-in, mem-out, passed}
+use Rattle.laws.proofs.Lists.{T-in, T-out, and-both, and-left, and-right, both-ways, mem-in, mem-out, passed}
 use Rattle.laws.proofs.Spending.{spent-commits, spent-decides}
 use Rattle.graph.specs.Sets.{member, outside, edges as inTable}
 use Rattle.graph.specs.Reach.{Reached, reachable}

@@ -3,28 +3,25 @@ use Prim.Native.Nat.{ℕ, suc, _+_, _-_, _≤_, _<_}
 use native.Mathlib.Decide.{decLt, ℕ-discrete}
 use native.Mathlib.Numerals.{add-one}
 use native.Mathlib.Omega.{arith}
-use mathlib.Core.Bool.{Bool, true, false, not, _&&_, _||_, false≢true, and-false}
+use mathlib.Core.Bool.{Bool, true, false, not, _&&_, _||_, and-false}
 use mathlib.Core.List.{List}
 use mathlib.Core.Logic.{_⊎_, inl, inr}
-use mathlib.Core.Path.{_≡_, refl, sym, ap, subst, _∙_}
+use mathlib.Core.Path.{_≡_, refl, sym, ap, _∙_}
 use lib.Dec.{eqb, ltb, leb}
-use lib.ListN.{length, getD, drop, take, List·getD-eq-default, length-drop}
-use borrow.Author.Tests.{eq-eqb, eqb-true, ne-eqb, lt-ltb, le-ltb, le-leb, lt-leb}
+use lib.ListN.{length, getD, drop, take, length-drop}
+use borrow.Author.Tests.{lt-ltb, le-ltb, le-leb, lt-leb}
 use Rattle.rules.specs.Lists.{mem}
-use Rattle.rules.specs.Raw.{zeroRow}
 use Rattle.rules.specs.State.{State, commits, rowOf}
 use Rattle.terms.specs.Words.{num, start, done, committed}
 use Rattle.terms.specs.declared.Row.{Row}
 use Rattle.lists.specs.Tables.{firstIndex}
 use Rattle.lists.proofs.Untils.{until-first}
-use Rattle.laws.proofs.Lists.{_∈_, and-both, and-left, and-right, both-ways, mem-in, mem-out, passed}
-use Rattle.laws.proofs.Keeping.{mem-not}
-use Rattle.laws.proofs.Versions.{commits-in, commits-out}
+use Rattle.laws.proofs.Lists.{and-both, and-left, and-right, passed}
 use Rattle.graph.specs.Sets.{member, edges as inTable}
 use Rattle.theory.specs.Edges.{touches, edge, edges}
 use Rattle.theory.proofs.Facts.{Facts, facts-of}
-use Rattle.theory.proofs.Consequences.{row-of, one-row}
-use Rattle.edges.specs.Blocks.{at, usedCount, foreign, begin, block, has, Indexed}
+use Rattle.theory.proofs.Consequences.{row-of}
+use Rattle.edges.specs.Blocks.{at, usedCount, foreign, begin, block, Indexed}
 use Rattle.edges.specs.Times.{CutAt, Timed, ended}
 use Rattle.edges.specs.Drawn.{meets, metBy, span, picked, drawn, Drawing, Drawn}
 use Rattle.edges.specs.Told.{Holds, EdgesTold}

@@ -7,12 +7,11 @@ use mathlib.Core.List.{List}
 use mathlib.Core.Path.{_≡_, refl, sym, ap, subst, _∙_}
 use lib.Bits.{bitOr}
 use lib.Dec.{eqb, ltb}
-use lib.ListN.{length, getD, set, drop, take, replicate, length-take, length-drop, length-set}
+use lib.ListN.{length, getD, set, drop, take, replicate, length-take, length-drop}
 use lib.Seq.{getD-set-same, getD-set-other, getD-take, getD-drop}
 use borrow.Author.Tests.{eq-eqb, ne-eqb, le-ltb, le-leb, lt-leb}
 use Rattle.terms.specs.Words.{start, done, committed}
 use Rattle.terms.specs.declared.Row.{Row}
-use Rattle.laws.proofs.Lists.{and-left, and-right, and-both}
 use Rattle.graph.specs.Sets.{member}
 use Rattle.graph.proofs.Sets.{member-zero, member-with}
 use Rattle.edges.specs.Blocks.{at, has, usedCount}

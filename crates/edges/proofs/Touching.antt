@@ -1,19 +1,19 @@
 -- What the index says of a state: who wrote an item, who touched it, and which rows touch each other. Assumes nothing.
 use Prim.Native.Nat.{ℕ, _+_, _≤_, _<_}
 use native.Mathlib.Omega.{arith}
-use mathlib.Core.Bool.{Bool, true, false, _&&_, _||_, or-false, and-eq-true-iff}
-use mathlib.Core.List.{List, map}
+use mathlib.Core.Bool.{Bool, true, false, _&&_, _||_, and-eq-true-iff}
+use mathlib.Core.List.{List}
 use mathlib.Core.Path.{_≡_, refl, sym, ap, _∙_}
-use lib.Dec.{eqb, ltb}
+use lib.Dec.{eqb}
 use lib.ListN.{length}
 use borrow.Author.Tests.{eq-eqb, eqb-true, ne-eqb, lt-ltb}
-use Rattle.rules.specs.Lists.{any, keep}
+use Rattle.rules.specs.Lists.{any}
 use Rattle.rules.specs.Raw.{unpack, usedRecs}
 use Rattle.rules.specs.State.{State, isRec, recorded, wrote}
 use Rattle.terms.specs.Words.{num, txn, item, isWrite}
 use Rattle.terms.specs.declared.Rec.{Rec}
 use Rattle.terms.specs.declared.Row.{Row}
-use Rattle.laws.proofs.Lists.{_∈_, and-both, and-left, and-right, any-in, any-out, both-ways}
+use Rattle.laws.proofs.Lists.{and-both, and-left, and-right, any-in, any-out, both-ways}
 use Rattle.laws.proofs.Keeping.{any-kept}
 use Rattle.laws.proofs.Raw.{unpack-packs}
 use Rattle.theory.specs.Edges.{touches}

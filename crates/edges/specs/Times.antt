@@ -1,13 +1,12 @@
 -- Which rows started before a row's commit: as the starts ascend, those before a place. Assumes nothing.
-use Prim.Native.Nat.{ℕ, _+_, _≤_, _<_}
+use Prim.Native.Nat.{ℕ, _≤_, _<_}
 use mathlib.Core.Path.{_≡_}
 use mathlib.Core.Bool.{Bool, true, _&&_}
 use mathlib.Core.List.{List}
 use lib.Dec.{eqb, ltb, leb}
 use lib.ListN.{length, getD}
-use Rattle.terms.specs.Words.{num, start, done, committed}
+use Rattle.terms.specs.Words.{start, done, committed}
 use Rattle.terms.specs.declared.Row.{Row}
-use Rattle.graph.specs.Sets.{member}
 use Rattle.edges.specs.Blocks.{at, has}
 
 -- r is the first place whose number is not below m

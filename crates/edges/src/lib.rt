@@ -1,18 +1,14 @@
 // The edges between committed rows, as a set of rows for each row. The rows stand by ascending number and start, the records by transaction.
 ghost use mathlib.Core.Path.{_≡_};
-ghost use mathlib.Core.Bool.{_&&_, _||_, not};
-ghost use mathlib.Core.List.{List};
+ghost use mathlib.Core.Bool.{not};
 ghost use Prim.Native.Nat.{ℕ, _+_, _-_, _/_, _^_, _≤_, _<_};
-ghost use lib.Dec.{eqb, leb};
 ghost use lib.ListN.{length, getD, replicate};
-ghost use Rattle.rules.specs.Lists.{any};
 ghost use Rattle.rules.specs.Raw.{unpack};
-ghost use Rattle.terms.specs.Words.{txn, item, isWrite, num, start, committed};
+ghost use Rattle.terms.specs.Words.{txn, item, isWrite, start, committed};
 ghost use Rattle.graph.specs.Sets.{member};
 ghost use Rattle.edges.specs.Blocks.{at, usedCount, has, Marked, Indexed};
 ghost use Rattle.edges.specs.Times.{Cut, Timed, placed, since};
 ghost use Rattle.edges.specs.Drawn.{Meets, Drawing, Drawn, picked};
-ghost use Rattle.graph.specs.Fill.{Filled};
 ghost use Rattle.edges.specs.Told.{EdgesTold, SpentTold};
 ghost use Rattle.edges.specs.Spent.{limitOf};
 use graph::ROWS;

@@ -2,18 +2,18 @@
 use Prim.Native.Nat.{ℕ, _≤_, _<_}
 use native.Mathlib.Decide.{decLt}
 use native.Mathlib.Omega.{arith}
-use mathlib.Core.Bool.{Bool, true, false, not, _&&_, and-eq-true-iff}
-use mathlib.Core.List.{List, List·Memᴰ, map, Memᴰ·map, Memᴰ·of-map}
-use mathlib.Core.Path.{_≡_, refl, sym, ap, subst, _∙_}
+use mathlib.Core.Bool.{Bool, true, _&&_}
+use mathlib.Core.List.{List, map, Memᴰ·map, Memᴰ·of-map}
+use mathlib.Core.Path.{_≡_, sym, ap, subst, _∙_}
 use lib.Dec.{eqb}
-use lib.ListN.{length, getD, length-map, List·getD-eq-default}
+use lib.ListN.{length, getD, List·getD-eq-default}
 use lib.Seq.{ext-getD}
 use borrow.Author.Tests.{eq-eqb, eqb-true, eqb-false, not-true}
-use Rattle.rules.specs.Lists.{keep, padded, upfrom}
-use Rattle.rules.specs.Raw.{pack, unpack, rawOf, usedRecs, zeroRow}
+use Rattle.rules.specs.Lists.{padded, upfrom}
+use Rattle.rules.specs.Raw.{pack, unpack, rawOf, zeroRow}
 use Rattle.rules.specs.Spent.{forget}
-use Rattle.rules.specs.State.{State, commitOf, commits, wordIn}
-use Rattle.rules.specs.Versions.{Installer, LatestBefore, versionAt}
+use Rattle.rules.specs.State.{State, commits}
+use Rattle.rules.specs.Versions.{LatestBefore, versionAt}
 use Rattle.terms.specs.Words.{num, done, committed, txn, item, isWrite, version, writer}
 use Rattle.terms.specs.declared.Row.{Row}
 use Rattle.terms.specs.declared.Rec.{Rec}
@@ -21,18 +21,17 @@ use Rattle.terms.specs.declared.Version.{Version}
 use Rattle.lists.proofs.Pads.{getD-padded, length-padded}
 use Rattle.laws.proofs.Lists.{_∈_, and-both, and-left, and-right, keep-in, keep-out}
 use Rattle.laws.proofs.Raw.{Packs, unpack-pack}
-use Rattle.laws.proofs.Records.{is-rec, is-rec-out}
 use Rattle.laws.proofs.Rows.{Known, row-at}
 use Rattle.laws.proofs.Tables.{getD-zero, length-table}
 use Rattle.laws.proofs.Versions.{Writer, commits-out, installer-in, installer-out, latest-decides, recorded-in, recorded-out}
 use Rattle.graph.specs.Sets.{member}
-use Rattle.theory.proofs.Consequences.{one-row, rowed}
+use Rattle.theory.proofs.Consequences.{rowed}
 use Rattle.theory.proofs.Facts.{Facts}
 use Rattle.theory.proofs.Forgetting.{goneOf, rowed-gone}
 use Rattle.edges.specs.Blocks.{at}
 use Rattle.edges.proofs.Places.{in-place}
 use Rattle.taking.specs.Leaving.{placeOf}
-use Rattle.taking.specs.Passing.{writes, commitAt, Latest, Entry, Entry.kept, Entry.passed, Passed}
+use Rattle.taking.specs.Passing.{writes, commitAt, Entry, Entry.kept, Entry.passed, Passed}
 use Rattle.taking.proofs.Placed.{place-is, done-at, word-in}
 use Rattle.taking.proofs.Taken.{goes, used}
 

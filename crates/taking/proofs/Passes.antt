@@ -1,5 +1,5 @@
 -- The latest versions of the rows that go, record by record: the loop as one record. Assumes nothing.
-use Prim.Native.Nat.{ℕ, suc, _+_, _≤_, _<_}
+use Prim.Native.Nat.{ℕ, _+_, _≤_, _<_}
 use native.Mathlib.Decide.{ℕ-discrete}
 use native.Mathlib.Numerals.{add-one}
 use native.Mathlib.Omega.{arith}
@@ -9,14 +9,14 @@ use mathlib.Core.Logic.{_⊎_, inl, inr}
 use mathlib.Core.Path.{_≡_, refl, sym, ap, subst, _∙_}
 use lib.Dec.{eqb}
 use lib.ListN.{length, getD, set, take, replicate, length-set, length-replicate}
-use lib.Seq.{take-suc, take-all, getD-set-same, getD-set-other}
-use borrow.Author.Tests.{eq-eqb, eqb-true, ne-eqb}
+use lib.Seq.{take-suc, getD-set-same, getD-set-other}
+use borrow.Author.Tests.{ne-eqb}
 use Rattle.rules.specs.Raw.{unpack, usedRecs}
 use Rattle.terms.specs.Words.{txn, item, isWrite}
 use Rattle.lists.specs.Tables.{firstIndex}
 use Rattle.lists.proofs.Scans.{Going, onwards, first-start, first-next, first-here, first-done}
 use Rattle.lists.proofs.Untils.{until-first}
-use Rattle.laws.proofs.Lists.{_∈_, and-left, and-right}
+use Rattle.laws.proofs.Lists.{_∈_}
 use Rattle.graph.specs.Sets.{member}
 use Rattle.edges.proofs.Indexes.{getD-zeros}
 use Rattle.taking.specs.Leaving.{placeOf}
@@ -26,9 +26,6 @@ use Rattle.taking.specs.Passing.{writes, commitAt, Latest, Entry, Passed
 pub data Best (gone : ℕ) (nums ends qs : List ℕ) (v₀ w₀ v w b : ℕ) (i : ℕ) : Type 0 where
   none : ((q : ℕ) → List·Memᴰ q qs → writes gone nums i q ≡ true → commitAt nums ends q ≡ 0) → b ≡ 0 → v ≡ v₀ → w ≡ w₀ → Best gone nums ends qs v₀ w₀ v w b i
   some : (p : ℕ) → Latest gone nums ends qs i p → b ≡ commitAt nums ends p → v ≡ unpack p .word → w ≡ txn (unpack p) → Best gone nums ends qs v₀ w₀ v w b i
-
-abbrev unused : ℕ → Bool
-unused p = eqb p 0
 
 -- k records are looked at
 pub record PassingTo (gone : ℕ) (nums ends ps v₀ w₀ v w best : List ℕ) (k : ℕ) : Type 0 where
@@ -52,9 +49,6 @@ pass-start gone nums ends ps v w {best} e =
     }
 
 module _ {gone : ℕ} {nums ends ps v₀ w₀ v w best : List ℕ} {k : ℕ} (s : PassingTo gone nums ends ps v₀ w₀ v w best k) where
-  abbrev p : ℕ
-  p = getD ps k 0
-
   module _ (l : k < length ps) (used : eqb (getD ps k 0) 0 ≡ false) where
     longer : take (k + 1) ps ≡ take k ps ++ (getD ps k 0 ∷ [])
     longer = ap (λ (n : ℕ). take n ps) (add-one k) ∙ take-suc ps k 0 l

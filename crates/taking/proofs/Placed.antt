@@ -6,16 +6,16 @@ use mathlib.Core.List.{List, [], _∷_, map}
 use mathlib.Core.Path.{_≡_, refl, sym, ap, _∙_}
 use lib.Dec.{eqb, ltb}
 use lib.ListN.{length, getD, length-map}
-use borrow.Author.Tests.{eq-eqb, eqb-true, eqb-false, ne-eqb, ltb-true}
-use Rattle.rules.specs.Lists.{padded, pairs, all}
+use borrow.Author.Tests.{eq-eqb, ne-eqb, ltb-true}
+use Rattle.rules.specs.Lists.{padded, all}
 use Rattle.rules.specs.Raw.{zeroRow}
 use Rattle.rules.specs.State.{State, isRec, wordIn}
-use Rattle.terms.specs.Words.{num, done, txn, item, key}
+use Rattle.terms.specs.Words.{num, done, key}
 use Rattle.terms.specs.declared.Row.{Row}
 use Rattle.terms.specs.declared.Rec.{Rec}
 use Rattle.lists.specs.Tables.{firstIndex}
 use Rattle.lists.proofs.Pads.{getD-padded, length-padded}
-use Rattle.laws.proofs.Lists.{_∈_, all-out, and-left, and-right, passed}
+use Rattle.laws.proofs.Lists.{_∈_, all-out, and-left, and-right}
 use Rattle.laws.proofs.Records.{Sorted, is-rec-out}
 use Rattle.theory.proofs.Facts.{Facts}
 use Rattle.edges.specs.Blocks.{at}
@@ -36,9 +36,6 @@ first-at p d (x ∷ xs) (suc i) l f t =
     ap (λ (b : Bool). cond b zero (suc (firstIndex p xs))) (f 0 (omega arith)) ∙ ap suc (first-at p d xs i (omega arith) (λ k h. f (suc k) (omega arith)) t)
 
 module _ (n : ℕ) (s : State) (v : Facts s) (room : length (s .rows) ≤ n) where
-  abbrev rows : List Row
-  rows = padded n zeroRow (s .rows)
-
   num-at : (i : ℕ) → getD (map num (padded n zeroRow (s .rows))) i 0 ≡ num (at (s .rows) i)
   num-at i = getD-map num (padded n zeroRow (s .rows)) i zeroRow ∙ ap num (getD-padded n i zeroRow (s .rows))
 

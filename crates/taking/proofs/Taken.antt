@@ -1,26 +1,24 @@
 -- The tables after the rows that pass a test are taken out are those of the state that forgets them. Assumes nothing.
-use Prim.Native.Nat.{ℕ, _≤_, _<_}
-use native.Mathlib.Decide.{decLt}
+use Prim.Native.Nat.{ℕ, _≤_}
 use native.Mathlib.Nat.{zero-add}
 use native.Mathlib.Omega.{arith}
-use mathlib.Core.Bool.{Bool, true, false, not, _&&_, false≢true}
-use mathlib.Core.List.{List, map, Memᴰ·map, Memᴰ·of-map}
+use mathlib.Core.Bool.{Bool, true, false, not}
+use mathlib.Core.List.{List, map, Memᴰ·of-map}
 use mathlib.Core.Logic.{_⊎_, inl, inr}
-use mathlib.Core.Path.{_≡_, refl, sym, ap, subst, _∙_}
-use lib.Dec.{eqb, ltb}
-use lib.ListN.{length, getD, List·getD-eq-default}
-use lib.Seq.{ext-getD}
-use borrow.Author.Tests.{ne-eqb, eqb-true, not-true}
-use Rattle.rules.specs.Lists.{keep, padded, until, upfrom}
-use Rattle.rules.specs.Raw.{Raw, pack, unpack, rawOf, usedRecs, zeroRow}
+use mathlib.Core.Path.{_≡_, refl, sym, ap, _∙_}
+use lib.Dec.{eqb}
+use lib.ListN.{length, List·getD-eq-default}
+use borrow.Author.Tests.{ne-eqb}
+use Rattle.rules.specs.Lists.{keep, padded}
+use Rattle.rules.specs.Raw.{pack, unpack, rawOf, usedRecs, zeroRow}
 use Rattle.rules.specs.Spent.{forget}
 use Rattle.rules.specs.State.{State, commits}
-use Rattle.terms.specs.Words.{num, done, committed, txn, item}
+use Rattle.terms.specs.Words.{num, txn}
 use Rattle.terms.specs.declared.Row.{Row}
 use Rattle.terms.specs.declared.Rec.{Rec}
-use Rattle.lists.proofs.Keeps.{map-keep, length-keep}
+use Rattle.lists.proofs.Keeps.{map-keep}
 use Rattle.lists.proofs.Pads.{until-padded}
-use Rattle.laws.proofs.Keeping.{any-none, mem-not}
+use Rattle.laws.proofs.Keeping.{any-none}
 use Rattle.laws.proofs.Lists.{_∈_, keep-same, passed}
 use Rattle.laws.proofs.Raw.{Packs, unpack-pack}
 use Rattle.laws.proofs.Versions.{commits-out}

@@ -1,7 +1,7 @@
 // Rows that go lose their row and their records, and their latest versions pass into the value tables.
 ghost use mathlib.Core.Path.{_≡_};
 ghost use mathlib.Core.List.{map};
-ghost use Prim.Native.Nat.{_%_, _^_, _<_};
+ghost use Prim.Native.Nat.{_%_, _<_};
 ghost use lib.ListN.{length, take};
 ghost use Rattle.rules.specs.Lists.{keep, padded};
 ghost use Rattle.rules.specs.Raw.{unpack, usedRecs, zeroRow};

@@ -1,7 +1,6 @@
 -- `edges::below` meets its contract. Assumes nothing.
 use Prim.Native.Nat.{_^_, _≤_}
 use native.Mathlib.Omega.{arith}
-use mathlib.Core.Path.{ap}
 use lib.Pow.{pow-mono, pow-pos}
 use borrow.Author.Needs.{needs}
 use Rattle.graph.proofs.Sets.{one-shl}

@@ -6,8 +6,6 @@ use lib.ListN.{length}
 use Rattle.edges.proofs.Cuts.{Cutting, cut-next}
 use Rattle.edges.proofs.cut.Statement.{statement}
 use Rattle.edges.proofs.cut.Tie as tie
-use Rattle.edges.proofs.cut.Reads as reads
-use Rattle.edges.proofs.cut.Lts as lts
 
 abbrev Inv-loop : tie.InvT-loop
 Inv-loop part m k₀ k = Cutting part m k
@@ -15,35 +13,27 @@ Inv-loop part m k₀ k = Cutting part m k
 abbrev μ-loop : tie.MeasureT-loop
 μ-loop part m k₀ k = length part - k
 
--- src/lib.rt:112:5
 loop-holds : tie.Need-loop-holds Inv-loop μ-loop
 loop-holds c = (search needs, λ i l. absurd (omega arith))
 
--- src/lib.rt:113:17
 mul-if1 : tie.Need-mul-if1 Inv-loop μ-loop
 mul-if1 c = search needs
 
--- src/lib.rt:113:17
 shared-slice-read-if1 : tie.Need-shared-slice-read-if1 Inv-loop μ-loop
 shared-slice-read-if1 c = search needs
 
--- src/lib.rt:114:13
 returns : tie.Need-returns Inv-loop μ-loop
 returns c = record { at-most = search needs; below = c .before .before .before .loop .inv .1; stops = λ l. search needs }
 
--- src/lib.rt:116:9
 add-k : tie.Need-add-k Inv-loop μ-loop
 add-k c = search needs
 
--- src/lib.rt:112:5
 loop-less : tie.Need-loop-less Inv-loop μ-loop
 loop-less c = search needs
 
--- src/lib.rt:112:5
 loop-again : tie.Need-loop-again Inv-loop μ-loop
 loop-again c = let i = c .before .before .before .loop in cut-next (c .before .before .before .before .args .part .now) (c .before .before .before .before .args .m) (i .k) (i .inv) (search needs) (search needs)
 
--- src/lib.rt:108:1
 returns-2 : tie.Need-returns-2 Inv-loop μ-loop
 returns-2 c = record { at-most = search needs; below = c .before .loop .inv .1; stops = λ l. absurd (omega arith) }
 

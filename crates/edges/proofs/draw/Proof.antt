@@ -7,11 +7,6 @@ use Rattle.edges.specs.Drawn.{Drawn}
 use Rattle.edges.proofs.Draws.{DrawingTo, draw-start, draw-skip, draw-next}
 use Rattle.edges.proofs.draw.Statement.{statement}
 use Rattle.edges.proofs.draw.Tie as tie
-use Rattle.edges.proofs.draw.Reads as reads
-use Rattle.edges.proofs.draw.Lts as lts
-use Rattle.edges.proofs.met.Reads as met-reads
-use Rattle.edges.proofs.pick.Reads as pick-reads
-use Rattle.graph.proofs.has.Reads as has-reads
 
 abbrev Inv-loop : tie.InvT-loop
 Inv-loop tab recs ends cuts shut among n g₀ before₀ a₀ g before a = DrawingTo 256 32 tab recs ends cuts among g before a × (a ≤ n)
@@ -19,103 +14,79 @@ Inv-loop tab recs ends cuts shut among n g₀ before₀ a₀ g before a = Drawin
 abbrev μ-loop : tie.MeasureT-loop
 μ-loop tab recs ends cuts shut among n g₀ before₀ a₀ g before a = n - a
 
--- src/lib.rt:216:5
 loop-holds : tie.Need-loop-holds Inv-loop μ-loop
 loop-holds c = let p = c .before .before .before .before .before .args in (draw-start 256 32 (p .tab .now) (p .recs .now) (p .ends .now) (p .cuts .now) (p .among) refl, omega arith)
 
--- src/lib.rt:218:9
 add-a : tie.Need-add-a Inv-loop μ-loop
 add-a c = search needs
 
--- src/lib.rt:219:27
 mul-before : tie.Need-mul-before Inv-loop μ-loop
 mul-before c = search needs
 
--- src/lib.rt:219:27
 shared-slice-read-before : tie.Need-shared-slice-read-before Inv-loop μ-loop
 shared-slice-read-before c = search needs
 
--- src/lib.rt:220:12
 has-requires : tie.Need-has-requires Inv-loop μ-loop
 has-requires c κs = search needs
 
--- src/lib.rt:221:24
 mul-from : tie.Need-mul-from Inv-loop μ-loop
 mul-from c = search needs
 
--- src/lib.rt:221:24
 shared-slice-read-from : tie.Need-shared-slice-read-from Inv-loop μ-loop
 shared-slice-read-from c = search needs
 
--- src/lib.rt:222:22
 mul-to : tie.Need-mul-to Inv-loop μ-loop
 mul-to c = search needs
 
--- src/lib.rt:222:22
 shared-slice-read-to : tie.Need-shared-slice-read-to Inv-loop μ-loop
 shared-slice-read-to c = search needs
 
--- src/lib.rt:223:30
 mul-met : tie.Need-mul-met Inv-loop μ-loop
 mul-met c = let l = c .before .before .before .before .before .before .loop in let p = c .before .before .before .before .before .before .before .before .before .before .before .before .pre in
     let o = p .1 .order (l .a) (search needs) in let i = p .1 .inside (l .a) (search needs) in search needs
 
--- src/lib.rt:223:30
 sub-met : tie.Need-sub-met Inv-loop μ-loop
 sub-met c = let l = c .before .before .before .before .before .before .loop in let p = c .before .before .before .before .before .before .before .before .before .before .before .before .pre in p .1 .order (l .a) (search needs)
 
--- src/lib.rt:223:30
 part-met-start : tie.Need-part-met-start Inv-loop μ-loop
 part-met-start c = let l = c .before .before .before .before .before .before .loop in let p = c .before .before .before .before .before .before .before .before .before .before .before .before .pre in p .1 .order (l .a) (search needs)
 
--- src/lib.rt:223:30
 part-met-end : tie.Need-part-met-end Inv-loop μ-loop
 part-met-end c = let l = c .before .before .before .before .before .before .loop in let p = c .before .before .before .before .before .before .before .before .before .before .before .before .pre in p .1 .inside (l .a) (search needs)
 
--- src/lib.rt:223:17
 met-requires : tie.Need-met-requires Inv-loop μ-loop
 met-requires c κs = search needs
 
--- src/lib.rt:224:50
 mul-pick : tie.Need-mul-pick Inv-loop μ-loop
 mul-pick c = search needs
 
--- src/lib.rt:224:50
 shared-slice-read-pick : tie.Need-shared-slice-read-pick Inv-loop μ-loop
 shared-slice-read-pick c = search needs
 
--- src/lib.rt:224:20
 pick-requires : tie.Need-pick-requires Inv-loop μ-loop
 pick-requires c κs = let l = c .before .before .before .before .before .before .before .before .before .loop in let p = c .before .before .before .before .before .before .before .before .before .before .before .before .before .before .before .pre in
     let q = p .1 .low (l .a) (sym (c .before .before .before .before .before .before .has .ensures) ∙ c .before .before .before .before .before .if1 .taken) in (omega arith, search needs)
 
--- src/lib.rt:224:13
 mul-g : tie.Need-mul-g Inv-loop μ-loop
 mul-g c = search needs
 
--- src/lib.rt:224:13
 array-write-g : tie.Need-array-write-g Inv-loop μ-loop
 array-write-g c = search needs
 
--- src/lib.rt:216:5
 loop-less : tie.Need-loop-less Inv-loop μ-loop
 loop-less c = search needs
 
--- src/lib.rt:216:5
 loop-again : tie.Need-loop-again Inv-loop μ-loop
 loop-again c = let l = c .before .before .before .before .before .before .before .before .before .before .loop in let p = c .before .before .before .before .before .before .before .before .before .before .before .before .before .before .before .before in
     (draw-next (l .inv .0) (p .args .shut .now) (p .pre .1 .is) (c .pick .result) (search needs) (sym (c .before .before .before .before .before .before .before .has .ensures) ∙ c .before .before .before .before .before .before .if1 .taken) refl (c .before .before .met .ensures) (c .pick .ensures), omega arith)
 
--- src/lib.rt:216:5
 loop-less-2 : tie.Need-loop-less-2 Inv-loop μ-loop
 loop-less-2 c = search needs
 
--- src/lib.rt:216:5
 loop-again-2 : tie.Need-loop-again-2 Inv-loop μ-loop
 loop-again-2 c = let l = c .before .before .before .before .loop in let p = c .before .before .before .before .before .before .before .before .before .before in
     (draw-skip (l .inv .0) (p .args .shut .now) (p .pre .1 .is) (sym (c .before .has .ensures) ∙ c .if1 .left), omega arith)
 
--- src/lib.rt:208:1
 returns : tie.Need-returns Inv-loop μ-loop
 returns c = let l = c .before .loop in let p = c .before .before .before .before .before .before .before .args in let e : l .a ≡ p .n = omega arith in
     subst (λ (k : ℕ). Drawn 256 32 (p .tab .now) (p .recs .now) (p .ends .now) (p .cuts .now) (p .among) (l .g) k) e (l .inv .0 .drawn)

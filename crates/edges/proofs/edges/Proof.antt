@@ -1,9 +1,7 @@
 -- `edges::edges` meets its contract: what is drawn from the index and the cuts. Assumes nothing.
-use Prim.Native.Nat.{_≤_}
 use native.Mathlib.Omega.{arith}
-use mathlib.Core.Path.{_≡_, refl}
+use mathlib.Core.Path.{refl}
 use lib.Dec.{eqb}
-use lib.ListN.{length}
 use Rattle.terms.specs.Words.{num}
 use Rattle.edges.proofs.Indexes.{first-most}
 use Rattle.edges.proofs.Timings.{ended-late}
@@ -11,63 +9,43 @@ use Rattle.edges.proofs.Telling.{drawing, edges-told}
 use borrow.Author.Needs.{needs}
 use Rattle.edges.proofs.edges.Statement.{statement}
 use Rattle.edges.proofs.edges.Tie as tie
-use Rattle.edges.proofs.edges.Reads as reads
-use Rattle.edges.proofs.edges.Lts as lts
-use Rattle.edges.proofs.draw.Reads as draw-reads
-use Rattle.edges.proofs.index.Reads as index-reads
-use Rattle.edges.proofs.late.Reads as late-reads
-use Rattle.edges.proofs.starts.Reads as starts-reads
-use Rattle.edges.proofs.times.Reads as times-reads
 
--- src/lib.rt:242:26
 slice-aggregate-starts : tie.Need-slice-aggregate-starts
 slice-aggregate-starts c = search needs
 
--- src/lib.rt:242:9
 starts-requires : tie.Need-starts-requires
 starts-requires c κs = search needs
 
--- src/lib.rt:244:22
 slice-aggregate-index : tie.Need-slice-aggregate-index
 slice-aggregate-index c = search needs
 
--- src/lib.rt:244:16
 index-requires : tie.Need-index-requires
 index-requires c κs = (refl, omega (arith, c .before .before .starts .ensures .0, first-most (λ r. eqb (num r) 0) (c .before .before .before .before .before .args .rows)))
 
--- src/lib.rt:246:28
 slice-aggregate-times : tie.Need-slice-aggregate-times
 slice-aggregate-times c = search needs
 
--- src/lib.rt:246:39
 slice-aggregate-times-2 : tie.Need-slice-aggregate-times-2
 slice-aggregate-times-2 c = search needs
 
--- src/lib.rt:246:16
 times-requires : tie.Need-times-requires
 times-requires c κs = let a = c .before .before .before .before .before .before in (omega (arith, a .starts .ensures .0, first-most (λ r. eqb (num r) 0) (a .before .before .before .args .rows)), a .starts .ensures .1, refl, a .starts .ensures .2)
 
--- src/lib.rt:247:9
 late-requires : tie.Need-late-requires
 late-requires c κs = search needs
 
--- src/lib.rt:248:10
 slice-aggregate-draw : tie.Need-slice-aggregate-draw
 slice-aggregate-draw c = search needs
 
--- src/lib.rt:248:22
 slice-aggregate-draw-2 : tie.Need-slice-aggregate-draw-2
 slice-aggregate-draw-2 c = search needs
 
--- src/lib.rt:248:29
 slice-aggregate-draw-3 : tie.Need-slice-aggregate-draw-3
 slice-aggregate-draw-3 c = search needs
 
--- src/lib.rt:248:36
 slice-aggregate-draw-4 : tie.Need-slice-aggregate-draw-4
 slice-aggregate-draw-4 c = search needs
 
--- src/lib.rt:248:5
 draw-requires : tie.Need-draw-requires
 draw-requires c κs = let a = c .before .before .before .before .before .before in
     let b = a .before .before .before .before in
@@ -78,7 +56,6 @@ draw-requires c κs = let a = c .before .before .before .before .before .before 
       drawing (e .args .rows) (e .args .recs .now) (b .index .ensures) (m .result) (a .times .ensures .1) (ended-late (e .args .rows) (m .result) (d .starts .ensures .0) (m .ensures)),
     )
 
--- src/lib.rt:238:1
 returns : tie.Need-returns
 returns c = let a = c .before .before .before .before .before .before .before in
     let b = a .before .before .before .before in

@@ -3,39 +3,27 @@ use Rattle.edges.specs.Blocks.{usedCount}
 use Rattle.edges.specs.Times.{placed, since}
 -- `edges::spent` meets its contract. Assumes nothing.
 use native.Mathlib.Omega.{arith}
-use mathlib.Core.Path.{_≡_, _∙_, ap}
+use mathlib.Core.Path.{_∙_, ap}
 use Rattle.edges.proofs.Spending.{spent-told}
 use borrow.Author.Needs.{needs}
 use Rattle.edges.proofs.spent.Statement.{statement}
 use Rattle.edges.proofs.spent.Tie as tie
-use Rattle.edges.proofs.spent.Reads as reads
-use Rattle.edges.proofs.spent.Lts as lts
-use Rattle.edges.proofs.late.Reads as late-reads
-use Rattle.edges.proofs.limit.Reads as limit-reads
-use Rattle.graph.proofs.reach.Reads as reach-reads
-use Rattle.graph.proofs.without.Reads as without-reads
 
--- src/lib.rt:274:9
 limit-requires : tie.Need-limit-requires
 limit-requires c κs = search needs
 
--- src/lib.rt:275:9
 late-requires : tie.Need-late-requires
 late-requires c κs = search needs
 
--- src/lib.rt:276:20
 late-requires-2 : tie.Need-late-requires-2
 late-requires-2 c κs = search needs
 
--- src/lib.rt:276:35
 reach-requires : tie.Need-reach-requires
 reach-requires c κs = search needs
 
--- src/lib.rt:276:5
 without-requires : tie.Need-without-requires
 without-requires c κs = search needs
 
--- src/lib.rt:270:1
 returns : tie.Need-returns
 returns c = let a = c .before .before .before .before .before .before .args in
     let y = c .before .before .before .late in

@@ -3,17 +3,13 @@ use borrow.Author.Needs.{needs}
 use Prim.Native.Nat.{ℕ, _-_, _≤_}
 use native.Mathlib.Omega.{arith}
 use mathlib.Core.Bool.{not}
-use mathlib.Core.Path.{_≡_, refl, ap, subst, _∙_, sym}
+use mathlib.Core.Path.{_≡_, refl, ap, subst}
 use lib.ListN.{length, length-set}
 use borrow.Author.Tests.{eq-eqb, ne-eqb}
 use Rattle.edges.specs.Times.{Timed}
 use Rattle.edges.proofs.Timings.{time-start, time-skip, time-next, cut-at}
 use Rattle.edges.proofs.times.Statement.{statement}
 use Rattle.edges.proofs.times.Tie as tie
-use Rattle.edges.proofs.times.Reads as reads
-use Rattle.edges.proofs.times.Lts as lts
-use Rattle.edges.proofs.cut.Reads as cut-reads
-use Rattle.graph.proofs.with.Reads as with-reads
 
 abbrev Inv-loop : tie.InvT-loop
 Inv-loop begun n cuts₀ rows shut₀ b₀ cuts shut b = Timed n rows cuts shut b × (length cuts ≡ length cuts₀) × (b ≤ n) × (length shut ≡ 33)
@@ -21,79 +17,60 @@ Inv-loop begun n cuts₀ rows shut₀ b₀ cuts shut b = Timed n rows cuts shut 
 abbrev μ-loop : tie.MeasureT-loop
 μ-loop begun n cuts₀ rows shut₀ b₀ cuts shut b = n - b
 
--- src/lib.rt:128:5
 loop-holds : tie.Need-loop-holds Inv-loop μ-loop
 loop-holds c = (time-start _ _ 33 refl, refl, omega arith, refl)
 
--- src/lib.rt:130:9
 add-b : tie.Need-add-b Inv-loop μ-loop
 add-b c = search needs
 
--- src/lib.rt:131:17
 mul-r : tie.Need-mul-r Inv-loop μ-loop
 mul-r c = search needs
 
--- src/lib.rt:131:17
 array-copy-out-r : tie.Need-array-copy-out-r Inv-loop μ-loop
 array-copy-out-r c = search needs
 
--- src/lib.rt:134:29
 mul-cut : tie.Need-mul-cut Inv-loop μ-loop
 mul-cut c = search needs
 
--- src/lib.rt:134:29
 sub-cut : tie.Need-sub-cut Inv-loop μ-loop
 sub-cut c = search needs
 
--- src/lib.rt:134:29
 part-cut-start : tie.Need-part-cut-start Inv-loop μ-loop
 part-cut-start c = search needs
 
--- src/lib.rt:134:29
 part-cut-end : tie.Need-part-cut-end Inv-loop μ-loop
 part-cut-end c = search needs
 
--- src/lib.rt:134:25
 cut-requires : tie.Need-cut-requires Inv-loop μ-loop
 cut-requires c κs = search needs
 
--- src/lib.rt:134:21
 add-q : tie.Need-add-q Inv-loop μ-loop
 add-q c = search needs
 
--- src/lib.rt:135:13
 mul-cuts : tie.Need-mul-cuts Inv-loop μ-loop
 mul-cuts c = search needs
 
--- src/lib.rt:135:13
 slice-write-cuts : tie.Need-slice-write-cuts Inv-loop μ-loop
 slice-write-cuts c = search needs
 
--- src/lib.rt:136:35
 mul-with : tie.Need-mul-with Inv-loop μ-loop
 mul-with c = search needs
 
--- src/lib.rt:136:35
 array-read-with : tie.Need-array-read-with Inv-loop μ-loop
 array-read-with c = search needs
 
--- src/lib.rt:136:23
 with-requires : tie.Need-with-requires Inv-loop μ-loop
 with-requires c κs = search needs
 
--- src/lib.rt:136:13
 mul-shut : tie.Need-mul-shut Inv-loop μ-loop
 mul-shut c = search needs
 
--- src/lib.rt:136:13
 array-write-shut : tie.Need-array-write-shut Inv-loop μ-loop
 array-write-shut c = search needs
 
--- src/lib.rt:128:5
 loop-less : tie.Need-loop-less Inv-loop μ-loop
 loop-less c = search needs
 
--- src/lib.rt:128:5
 loop-again : tie.Need-loop-again Inv-loop μ-loop
 loop-again c = let l = c .before .before .before .before .before .before .loop in
     let p = c .before .before .before .before .before .before .before .before .before in
@@ -104,19 +81,15 @@ loop-again c = let l = c .before .before .before .before .before .before .loop i
       simp length-set (l .inv .3),
     )
 
--- src/lib.rt:128:5
 loop-less-2 : tie.Need-loop-less-2 Inv-loop μ-loop
 loop-less-2 c = search needs
 
--- src/lib.rt:128:5
 loop-again-2 : tie.Need-loop-again-2 Inv-loop μ-loop
 loop-again-2 c = let l = c .before .before .before .loop in (time-skip (l .inv .0) (ap not (eq-eqb _ 0 (c .if1 .left))), l .inv .1, omega arith, l .inv .3)
 
--- src/lib.rt:122:1
 same-length : tie.Need-same-length Inv-loop μ-loop
 same-length c = search needs
 
--- src/lib.rt:122:1
 returns : tie.Need-returns Inv-loop μ-loop
 returns c = let l = c .before .loop in let e : l .b ≡ c .before .before .before .before .args .n = omega arith in (l .inv .1, subst (λ (k : ℕ). Timed (c .before .before .before .before .args .n) (c .before .before .before .before .args .t1) (l .cuts) (l .shut) k) e (l .inv .0))
 

@@ -8,8 +8,6 @@ use Rattle.lists.proofs.Scans.{Going, onwards, first-start, first-next, first-h
 use Rattle.taking.specs.Leaving.{placeOf}
 use Rattle.taking.proofs.find.Statement.{statement}
 use Rattle.taking.proofs.find.Tie as tie
-use Rattle.taking.proofs.find.Reads as reads
-use Rattle.taking.proofs.find.Lts as lts
 
 abbrev Inv-loop : tie.InvT-loop
 Inv-loop nums t i₀ i = Going nums (onwards (λ n. eqb n t) i) (placeOf nums t) i
@@ -17,35 +15,27 @@ Inv-loop nums t i₀ i = Going nums (onwards (λ n. eqb n t) i) (placeOf nums t)
 abbrev μ-loop : tie.MeasureT-loop
 μ-loop nums t i₀ i = length nums - i
 
--- src/lib.rt:77:5
 loop-holds : tie.Need-loop-holds Inv-loop μ-loop
 loop-holds c = first-start (λ n. eqb n _)
 
--- src/lib.rt:78:12
 mul-if1 : tie.Need-mul-if1 Inv-loop μ-loop
 mul-if1 c = search needs
 
--- src/lib.rt:78:12
 shared-slice-read-if1 : tie.Need-shared-slice-read-if1 Inv-loop μ-loop
 shared-slice-read-if1 c = search needs
 
--- src/lib.rt:79:13
 returns : tie.Need-returns Inv-loop μ-loop
 returns c = first-here (λ n. eqb n (c .before .before .before .before .args .t)) (c .before .before .before .loop .inv) 0 (search needs) (eq-eqb _ _ (c .if1 .taken))
 
--- src/lib.rt:81:9
 add-i : tie.Need-add-i Inv-loop μ-loop
 add-i c = search needs
 
--- src/lib.rt:77:5
 loop-less : tie.Need-loop-less Inv-loop μ-loop
 loop-less c = search needs
 
--- src/lib.rt:77:5
 loop-again : tie.Need-loop-again Inv-loop μ-loop
 loop-again c = first-next (λ n. eqb n (c .before .before .before .before .args .t)) (c .before .before .before .loop .inv) 0 (search needs) (ne-eqb _ _ (c .if1 .left))
 
--- src/lib.rt:73:1
 returns-2 : tie.Need-returns-2 Inv-loop μ-loop
 returns-2 c = first-done (λ n. eqb n (c .before .before .args .t)) (c .before .loop .inv) (search needs)
 

@@ -4,19 +4,13 @@ use Rattle.graph.proofs.Sets.{member-past}
 use borrow.Author.Needs.{needs}
 use Rattle.taking.proofs.is_gone.Statement.{statement}
 use Rattle.taking.proofs.is_gone.Tie as tie
-use Rattle.taking.proofs.is_gone.Reads as reads
-use Rattle.taking.proofs.is_gone.Lts as lts
-use Rattle.graph.proofs.has.Reads as has-reads
 
--- src/lib.rt:102:9
 has-requires : tie.Need-has-requires
 has-requires c κs = search needs
 
--- src/lib.rt:102:9
 returns : tie.Need-returns
 returns c = search needs
 
--- src/lib.rt:98:1
 returns-2 : tie.Need-returns-2
 returns-2 c = let a = c .before .args in sym (member-past 32 (a .gone) (a .at) (search needs) (search needs))
 

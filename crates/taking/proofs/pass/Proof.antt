@@ -1,33 +1,19 @@
-use Prim.Native.Nat.{_≤_}
-use mathlib.Core.Path.{subst}
+use Prim.Native.Nat.{_≤_, ℕ, _-_}
+use mathlib.Core.Path.{subst, _≡_, refl, _∙_, ap, sym}
 use native.Mathlib.Omega.{arith}
-use Rattle.taking.proofs.Passes.{off-write, off-gone}
+use Rattle.taking.proofs.Passes.{off-write, off-gone, PassingTo, pass-start, pass-skip, pass-low, pass-put, pass-stop, pass-done}
 -- `taking::pass` meets its contract: `PassingTo`. Assumes nothing.
 use borrow.Author.Needs.{needs}
-use Prim.Native.Nat.{ℕ, _-_}
-use mathlib.Core.Bool.{Bool, _&&_}
-use mathlib.Core.Path.{_≡_, refl, _∙_, ap, sym}
-use lib.Dec.{eqb}
 use lib.ListN.{length, getD}
 use borrow.Author.Tests.{eq-eqb, ne-eqb}
 use Rattle.rules.specs.Raw.{unpack}
-use Rattle.terms.specs.Words.{txn, item, isWrite}
+use Rattle.terms.specs.Words.{txn}
 use Rattle.laws.proofs.Lists.{T-in, and-both}
 use Rattle.graph.specs.Sets.{member}
 use Rattle.graph.proofs.Sets.{member-lt}
 use Rattle.taking.specs.Leaving.{placeOf}
-use Rattle.taking.proofs.Passes.{PassingTo, pass-start, pass-skip, pass-low, pass-put, pass-stop, pass-done}
 use Rattle.taking.proofs.pass.Statement.{statement}
 use Rattle.taking.proofs.pass.Tie as tie
-use Rattle.taking.proofs.pass.Reads as reads
-use Rattle.taking.proofs.pass.Lts as lts
-use Rattle.edges.proofs.is_write.Reads as is-write-reads
-use Rattle.edges.proofs.item_of.Reads as item-of-reads
-use Rattle.edges.proofs.txn_of.Reads as txn-of-reads
-use Rattle.taking.proofs.again.Reads as again-reads
-use Rattle.taking.proofs.find.Reads as find-reads
-use Rattle.taking.proofs.is_gone.Reads as is-gone-reads
-use Rattle.taking.proofs.word_of.Reads as word-of-reads
 
 abbrev Inv-loop : tie.InvT-loop
 Inv-loop values₀ writers₀ recs nums ends gone best₀ last₀ at₀ k₀ values writers best last at k = PassingTo gone nums ends recs values₀ writers₀ values writers best k × (at ≡ placeOf nums last)
@@ -35,151 +21,116 @@ Inv-loop values₀ writers₀ recs nums ends gone best₀ last₀ at₀ k₀ val
 abbrev μ-loop : tie.MeasureT-loop
 μ-loop values₀ writers₀ recs nums ends gone best₀ last₀ at₀ k₀ values writers best last at k = length recs - k
 
--- src/lib.rt:153:9
 find-requires : tie.Need-find-requires Inv-loop μ-loop
 find-requires c κs = search needs
 
--- src/lib.rt:155:5
 loop-holds : tie.Need-loop-holds Inv-loop μ-loop
 loop-holds c = let a = c .before .before .before .before .before .before .args in (pass-start (a .gone) (a .nums .now) (a .ends .now) (a .recs .now) (a .values .now) (a .writers .now) refl, c .find .ensures)
 
--- src/lib.rt:156:17
 mul-x : tie.Need-mul-x Inv-loop μ-loop
 mul-x c = search needs
 
--- src/lib.rt:156:17
 shared-slice-read-x : tie.Need-shared-slice-read-x Inv-loop μ-loop
 shared-slice-read-x c = search needs
 
--- src/lib.rt:158:13
 same-length : tie.Need-same-length Inv-loop μ-loop
 same-length c = c .before .before .before .loop .inv .0 .values-len
 
--- src/lib.rt:158:13
 same-length-2 : tie.Need-same-length-2 Inv-loop μ-loop
 same-length-2 c = c .before .before .before .loop .inv .0 .writers-len
 
--- src/lib.rt:158:13
 returns : tie.Need-returns Inv-loop μ-loop
 returns c = pass-stop (c .before .before .before .loop .inv .0) (search needs) (eq-eqb _ 0 (c .if1 .taken))
 
--- src/lib.rt:160:13
 txn-of-requires : tie.Need-txn-of-requires Inv-loop μ-loop
 txn-of-requires c κs = search needs
 
--- src/lib.rt:161:9
 again-requires : tie.Need-again-requires Inv-loop μ-loop
 again-requires c κs = c .before .before .before .before .loop .inv .1
 
--- src/lib.rt:163:9
 add-k : tie.Need-add-k Inv-loop μ-loop
 add-k c = search needs
 
--- src/lib.rt:164:12
 is-gone-requires : tie.Need-is-gone-requires Inv-loop μ-loop
 is-gone-requires c κs = search needs
 
--- src/lib.rt:165:16
 is-write-requires : tie.Need-is-write-requires Inv-loop μ-loop
 is-write-requires c κs = search needs
 
--- src/lib.rt:166:21
 item-of-requires : tie.Need-item-of-requires Inv-loop μ-loop
 item-of-requires c κs = search needs
 
--- src/lib.rt:167:25
 mul-c : tie.Need-mul-c Inv-loop μ-loop
 mul-c c = let h = member-lt 32 (c .before .before .before .before .before .before .before .before .before .before .before .before .before .before .before .before .before .args .gone) (c .before .before .before .before .before .again .result) (search needs) (T-in (sym (c .before .before .before .before .is-gone .ensures) ∙ c .before .before .before .if2 .taken)) in search needs
 
--- src/lib.rt:167:25
 shared-slice-read-c : tie.Need-shared-slice-read-c Inv-loop μ-loop
 shared-slice-read-c c = let h = member-lt 32 (c .before .before .before .before .before .before .before .before .before .before .before .before .before .before .before .before .before .before .args .gone) (c .before .before .before .before .before .before .again .result) (search needs) (T-in (sym (c .before .before .before .before .before .is-gone .ensures) ∙ c .before .before .before .before .if2 .taken)) in omega arith
 
--- src/lib.rt:168:20
 mul-if4 : tie.Need-mul-if4 Inv-loop μ-loop
 mul-if4 c = search needs
 
--- src/lib.rt:168:20
 array-read-if4 : tie.Need-array-read-if4 Inv-loop μ-loop
 array-read-if4 c = search needs
 
--- src/lib.rt:169:21
 mul-best : tie.Need-mul-best Inv-loop μ-loop
 mul-best c = search needs
 
--- src/lib.rt:169:21
 array-write-best : tie.Need-array-write-best Inv-loop μ-loop
 array-write-best c = search needs
 
--- src/lib.rt:170:33
 word-of-requires : tie.Need-word-of-requires Inv-loop μ-loop
 word-of-requires c κs = search needs
 
--- src/lib.rt:170:21
 mul-values : tie.Need-mul-values Inv-loop μ-loop
 mul-values c = search needs
 
--- src/lib.rt:170:21
 slice-write-values : tie.Need-slice-write-values Inv-loop μ-loop
 slice-write-values c = omega arith
 
--- src/lib.rt:171:21
 mul-writers : tie.Need-mul-writers Inv-loop μ-loop
 mul-writers c = search needs
 
--- src/lib.rt:171:21
 slice-write-writers : tie.Need-slice-write-writers Inv-loop μ-loop
 slice-write-writers c = omega arith
 
--- src/lib.rt:155:5
 loop-less : tie.Need-loop-less Inv-loop μ-loop
 loop-less c = search needs
 
--- src/lib.rt:155:5
 loop-again : tie.Need-loop-again Inv-loop μ-loop
 loop-again c = let l = c .before .before .before .before .before .before .before .before .before .before .before .before .before .loop in let a = c .before .before .before .before .before .before .before .before .before .before .before .before .before .before .before .before .before .before .before .before .args in
     let e = ap (placeOf (a .nums .now)) (sym (c .before .before .before .before .before .before .before .before .before .txn-of .ensures)) ∙ sym (c .before .before .before .before .before .before .before .before .again .ensures) in
     (pass-put (l .inv .0) (search needs) (ne-eqb _ 0 (c .before .before .before .before .before .before .before .before .before .before .if1 .left)) (c .before .before .before .item-of .result) (sym (c .before .before .before .item-of .ensures .0)) (search needs) (search needs) (search needs) (and-both _ _ (and-both _ _ (ap (member (a .gone)) e ∙ sym (c .before .before .before .before .before .before .before .is-gone .ensures) ∙ c .before .before .before .before .before .before .if2 .taken) (sym (c .before .before .before .before .before .is-write .ensures) ∙ c .before .before .before .before .if3 .taken)) (eq-eqb _ _ (sym (c .before .before .before .item-of .ensures .0)))) (ap (λ (k : ℕ). getD (a .ends .now) k 0) (sym e)) (c .before .if4 .taken) (c .word-of .ensures) (c .before .before .before .before .before .before .before .before .before .txn-of .ensures), c .before .before .before .before .before .before .before .before .again .ensures)
 
--- src/lib.rt:155:5
 loop-less-2 : tie.Need-loop-less-2 Inv-loop μ-loop
 loop-less-2 c = search needs
 
--- src/lib.rt:155:5
 loop-again-2 : tie.Need-loop-again-2 Inv-loop μ-loop
 loop-again-2 c = let l = c .before .before .before .before .before .before .before .before .before .before .before .before .loop in let a = c .before .before .before .before .before .before .before .before .before .before .before .before .before .before .before .before .before .before .before .args in
     let e = ap (placeOf (a .nums .now)) (sym (c .before .before .before .before .before .before .before .before .txn-of .ensures)) ∙ sym (c .before .before .before .before .before .before .before .again .ensures) in
     (pass-low (l .inv .0) (search needs) (ne-eqb _ 0 (c .before .before .before .before .before .before .before .before .before .if1 .left)) (c .before .before .item-of .result) (sym (c .before .before .item-of .ensures .0)) (subst (λ (k : ℕ). getD (a .ends .now) k 0 ≤ getD (l .best) (c .before .before .item-of .result) 0) (sym e) (c .if4 .left)), c .before .before .before .before .before .before .before .again .ensures)
 
--- src/lib.rt:155:5
 loop-less-3 : tie.Need-loop-less-3 Inv-loop μ-loop
 loop-less-3 c = search needs
 
--- src/lib.rt:155:5
 loop-again-3 : tie.Need-loop-again-3 Inv-loop μ-loop
 loop-again-3 c = let l = c .before .before .before .before .before .before .before .before .before .loop in let a = c .before .before .before .before .before .before .before .before .before .before .before .before .before .before .before .before .args in
     let e = ap (placeOf (a .nums .now)) (sym (c .before .before .before .before .before .txn-of .ensures)) ∙ sym (c .before .before .before .before .again .ensures) in
     (pass-skip (l .inv .0) (search needs) (ne-eqb _ 0 (c .before .before .before .before .before .before .if1 .left)) (λ i. off-write (member (a .gone) (placeOf (a .nums .now) (txn (unpack (getD (a .recs .now) (l .k) 0))))) _ (sym (c .before .is-write .ensures) ∙ c .if3 .left)), c .before .before .before .before .again .ensures)
 
--- src/lib.rt:155:5
 loop-less-4 : tie.Need-loop-less-4 Inv-loop μ-loop
 loop-less-4 c = search needs
 
--- src/lib.rt:155:5
 loop-again-4 : tie.Need-loop-again-4 Inv-loop μ-loop
 loop-again-4 c = let l = c .before .before .before .before .before .before .before .loop in let a = c .before .before .before .before .before .before .before .before .before .before .before .before .before .before .args in
     let e = ap (placeOf (a .nums .now)) (sym (c .before .before .before .txn-of .ensures)) ∙ sym (c .before .before .again .ensures) in
     (pass-skip (l .inv .0) (search needs) (ne-eqb _ 0 (c .before .before .before .before .if1 .left)) (λ i. off-gone _ _ (ap (member (a .gone)) e ∙ sym (c .before .is-gone .ensures) ∙ c .if2 .left)), c .before .before .again .ensures)
 
--- src/lib.rt:147:1
 same-length-3 : tie.Need-same-length-3 Inv-loop μ-loop
 same-length-3 c = c .before .loop .inv .0 .values-len
 
--- src/lib.rt:147:1
 same-length-4 : tie.Need-same-length-4 Inv-loop μ-loop
 same-length-4 c = c .before .loop .inv .0 .writers-len
 
--- src/lib.rt:147:1
 returns-2 : tie.Need-returns-2 Inv-loop μ-loop
 returns-2 c = pass-done (c .before .loop .inv .0) (search needs)
 

@@ -1,47 +1,34 @@
 -- `taking::pass_on` meets its contract. Assumes nothing.
 use Prim.Native.Nat.{ℕ}
 use mathlib.Core.List.{List, map}
-use mathlib.Core.Path.{_∙_, ap, subst}
-use Rattle.terms.specs.Words.{num, done}
+use mathlib.Core.Path.{subst}
+use Rattle.terms.specs.Words.{done}
 use Rattle.taking.specs.Passing.{Passed}
 use borrow.Author.Needs.{needs}
 use Rattle.taking.proofs.pass_on.Statement.{statement}
 use Rattle.taking.proofs.pass_on.Tie as tie
-use Rattle.taking.proofs.pass_on.Reads as reads
-use Rattle.taking.proofs.pass_on.Lts as lts
-use Rattle.taking.proofs.commits.Reads as commits-reads
-use Rattle.taking.proofs.numbers.Reads as numbers-reads
-use Rattle.taking.proofs.pass.Reads as pass-reads
 
--- src/lib.rt:184:16
 numbers-requires : tie.Need-numbers-requires
 numbers-requires c κs = search needs
 
--- src/lib.rt:185:16
 commits-requires : tie.Need-commits-requires
 commits-requires c κs = search needs
 
--- src/lib.rt:186:33
 slice-aggregate-pass : tie.Need-slice-aggregate-pass
 slice-aggregate-pass c = search needs
 
--- src/lib.rt:186:40
 slice-aggregate-pass-2 : tie.Need-slice-aggregate-pass-2
 slice-aggregate-pass-2 c = search needs
 
--- src/lib.rt:186:5
 pass-requires : tie.Need-pass-requires
 pass-requires c κs = search needs
 
--- src/lib.rt:180:1
 same-length : tie.Need-same-length
 same-length c = search needs
 
--- src/lib.rt:180:1
 same-length-2 : tie.Need-same-length-2
 same-length-2 c = search needs
 
--- src/lib.rt:180:1
 returns : tie.Need-returns
 returns c = let p = c .before .before .before .before in
     let e = p .before .before .before .before .before in

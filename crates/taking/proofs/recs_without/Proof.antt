@@ -9,33 +9,22 @@ use Rattle.taking.specs.Leaving.{stays}
 use borrow.Author.Needs.{needs}
 use Rattle.taking.proofs.recs_without.Statement.{statement}
 use Rattle.taking.proofs.recs_without.Tie as tie
-use Rattle.taking.proofs.recs_without.Reads as reads
-use Rattle.taking.proofs.recs_without.Lts as lts
-use Rattle.lists.proofs.clear_from.Reads as clear-from-reads
-use Rattle.taking.proofs.numbers.Reads as numbers-reads
-use Rattle.taking.proofs.sieve.Reads as sieve-reads
 
--- src/lib.rt:136:16
 numbers-requires : tie.Need-numbers-requires
 numbers-requires c κs = search needs
 
--- src/lib.rt:137:25
 slice-aggregate-sieve : tie.Need-slice-aggregate-sieve
 slice-aggregate-sieve c = search needs
 
--- src/lib.rt:137:9
 sieve-requires : tie.Need-sieve-requires
 sieve-requires c κs = search needs
 
--- src/lib.rt:138:5
 clear-from-requires : tie.Need-clear-from-requires
 clear-from-requires c κs = search needs
 
--- src/lib.rt:133:1
 same-length : tie.Need-same-length
 same-length c = search needs
 
--- src/lib.rt:133:1
 returns : tie.Need-returns
 returns c = let s = c .before .before .before .before .before .before in
     let n = s .before .before .before in

@@ -8,9 +8,6 @@ use Rattle.graph.specs.Sets.{member}
 use Rattle.taking.proofs.Leaves.{Leaving, leave-start, leave-out, leave-in, leave-done}
 use Rattle.taking.proofs.rows_without.Statement.{statement}
 use Rattle.taking.proofs.rows_without.Tie as tie
-use Rattle.taking.proofs.rows_without.Reads as reads
-use Rattle.taking.proofs.rows_without.Lts as lts
-use Rattle.graph.proofs.has.Reads as has-reads
 
 abbrev Inv-loop : tie.InvT-loop
 Inv-loop gone rows out₀ j₀ i₀ out j i = Leaving (member gone) zeroRow 32 rows out j i
@@ -18,55 +15,42 @@ Inv-loop gone rows out₀ j₀ i₀ out j i = Leaving (member gone) zeroRow 32 r
 abbrev μ-loop : tie.MeasureT-loop
 μ-loop gone rows out₀ j₀ i₀ out j i = 32 - i
 
--- src/lib.rt:32:5
 loop-holds : tie.Need-loop-holds Inv-loop μ-loop
 loop-holds c = leave-start zeroRow 32 refl
 
--- src/lib.rt:33:17
 mul-r : tie.Need-mul-r Inv-loop μ-loop
 mul-r c = search needs
 
--- src/lib.rt:33:17
 array-copy-out-r : tie.Need-array-copy-out-r Inv-loop μ-loop
 array-copy-out-r c = search needs
 
--- src/lib.rt:35:9
 add-i : tie.Need-add-i Inv-loop μ-loop
 add-i c = search needs
 
--- src/lib.rt:36:13
 has-requires : tie.Need-has-requires Inv-loop μ-loop
 has-requires c κs = search needs
 
--- src/lib.rt:37:13
 mul-out : tie.Need-mul-out Inv-loop μ-loop
 mul-out c = search needs
 
--- src/lib.rt:37:13
 array-set-from-out : tie.Need-array-set-from-out Inv-loop μ-loop
 array-set-from-out c = search needs
 
--- src/lib.rt:38:13
 add-j : tie.Need-add-j Inv-loop μ-loop
 add-j c = search needs
 
--- src/lib.rt:32:5
 loop-less : tie.Need-loop-less Inv-loop μ-loop
 loop-less c = search needs
 
--- src/lib.rt:32:5
 loop-again : tie.Need-loop-again Inv-loop μ-loop
 loop-again c = leave-in (c .before .before .before .before .loop .inv) zeroRow (search needs) (search needs) (sym (c .before .has .ensures) ∙ not-true _ (c .if1 .taken))
 
--- src/lib.rt:32:5
 loop-less-2 : tie.Need-loop-less-2 Inv-loop μ-loop
 loop-less-2 c = search needs
 
--- src/lib.rt:32:5
 loop-again-2 : tie.Need-loop-again-2 Inv-loop μ-loop
 loop-again-2 c = leave-out (c .before .before .before .before .loop .inv) zeroRow (search needs) (sym (c .before .has .ensures) ∙ not-false _ (c .if1 .left))
 
--- src/lib.rt:21:1
 returns : tie.Need-returns Inv-loop μ-loop
 returns c = leave-done (c .before .loop .inv) (search needs)
 

@@ -12,12 +12,6 @@ use Rattle.taking.specs.Leaving.{placeOf, stays}
 use Rattle.taking.proofs.Sieves.{Sieving, sieve-start, sieve-yes, sieve-no, sieve-stop, sieve-done}
 use Rattle.taking.proofs.sieve.Statement.{statement}
 use Rattle.taking.proofs.sieve.Tie as tie
-use Rattle.taking.proofs.sieve.Reads as reads
-use Rattle.taking.proofs.sieve.Lts as lts
-use Rattle.edges.proofs.txn_of.Reads as txn-of-reads
-use Rattle.taking.proofs.again.Reads as again-reads
-use Rattle.taking.proofs.find.Reads as find-reads
-use Rattle.taking.proofs.is_gone.Reads as is-gone-reads
 
 abbrev Inv-loop : tie.InvT-loop
 Inv-loop recs₀ nums gone last₀ at₀ i₀ j₀ recs last at i j = Sieving (λ p. eqb p 0) (stays gone nums) recs₀ recs i j × (at ≡ placeOf nums last)
@@ -25,83 +19,64 @@ Inv-loop recs₀ nums gone last₀ at₀ i₀ j₀ recs last at i j = Sieving (�
 abbrev μ-loop : tie.MeasureT-loop
 μ-loop recs₀ nums gone last₀ at₀ i₀ j₀ recs last at i j = length recs - j
 
--- src/lib.rt:112:9
 find-requires : tie.Need-find-requires Inv-loop μ-loop
 find-requires c κs = search needs
 
--- src/lib.rt:115:5
 loop-holds : tie.Need-loop-holds Inv-loop μ-loop
 loop-holds c = (sieve-start, c .find .ensures)
 
--- src/lib.rt:116:17
 mul-x : tie.Need-mul-x Inv-loop μ-loop
 mul-x c = search needs
 
--- src/lib.rt:116:17
 slice-read-x : tie.Need-slice-read-x Inv-loop μ-loop
 slice-read-x c = search needs
 
--- src/lib.rt:118:13
 same-length : tie.Need-same-length Inv-loop μ-loop
 same-length c = c .before .before .before .loop .inv .0 .len
 
--- src/lib.rt:118:13
 returns : tie.Need-returns Inv-loop μ-loop
 returns c = (c .before .before .before .loop .inv .0 .len, sieve-stop (c .before .before .before .loop .inv .0) 0 (search needs) (eq-eqb _ 0 (c .if1 .taken)))
 
--- src/lib.rt:120:13
 txn-of-requires : tie.Need-txn-of-requires Inv-loop μ-loop
 txn-of-requires c κs = search needs
 
--- src/lib.rt:121:9
 again-requires : tie.Need-again-requires Inv-loop μ-loop
 again-requires c κs = c .before .before .before .before .loop .inv .1
 
--- src/lib.rt:123:9
 add-j : tie.Need-add-j Inv-loop μ-loop
 add-j c = search needs
 
--- src/lib.rt:124:13
 is-gone-requires : tie.Need-is-gone-requires Inv-loop μ-loop
 is-gone-requires c κs = search needs
 
--- src/lib.rt:125:13
 mul-recs : tie.Need-mul-recs Inv-loop μ-loop
 mul-recs c = search needs
 
--- src/lib.rt:125:13
 slice-write-recs : tie.Need-slice-write-recs Inv-loop μ-loop
 slice-write-recs c = search needs
 
--- src/lib.rt:126:13
 add-i : tie.Need-add-i Inv-loop μ-loop
 add-i c = search needs
 
--- src/lib.rt:115:5
 loop-less : tie.Need-loop-less Inv-loop μ-loop
 loop-less c = simp length-set (omega arith)
 
--- src/lib.rt:115:5
 loop-again : tie.Need-loop-again Inv-loop μ-loop
 loop-again c = let l = c .before .before .before .before .before .before .before .loop in let a = c .before .before .before .before .before .before .before .before .before .before .before .args in
     let e = ap (placeOf (a .nums .now)) (sym (c .before .before .before .txn-of .ensures)) ∙ sym (c .before .before .again .ensures) in
     (sieve-yes (l .inv .0) 0 refl (search needs) (ne-eqb _ 0 (c .before .before .before .before .if1 .left)) (ap (λ (k : ℕ). not (member (a .gone) k)) e ∙ ap not (sym (c .before .is-gone .ensures)) ∙ c .if2 .taken), c .before .before .again .ensures)
 
--- src/lib.rt:115:5
 loop-less-2 : tie.Need-loop-less-2 Inv-loop μ-loop
 loop-less-2 c = search needs
 
--- src/lib.rt:115:5
 loop-again-2 : tie.Need-loop-again-2 Inv-loop μ-loop
 loop-again-2 c = let l = c .before .before .before .before .before .before .before .loop in let a = c .before .before .before .before .before .before .before .before .before .before .before .args in
     let e = ap (placeOf (a .nums .now)) (sym (c .before .before .before .txn-of .ensures)) ∙ sym (c .before .before .again .ensures) in
     (sieve-no (l .inv .0) 0 (search needs) (ne-eqb _ 0 (c .before .before .before .before .if1 .left)) (ap (λ (k : ℕ). not (member (a .gone) k)) e ∙ ap not (sym (c .before .is-gone .ensures)) ∙ c .if2 .left), c .before .before .again .ensures)
 
--- src/lib.rt:108:1
 same-length-2 : tie.Need-same-length-2 Inv-loop μ-loop
 same-length-2 c = c .before .loop .inv .0 .len
 
--- src/lib.rt:108:1
 returns-2 : tie.Need-returns-2 Inv-loop μ-loop
 returns-2 c = (c .before .loop .inv .0 .len, sieve-done (c .before .loop .inv .0) (search needs))
 
