@@ -1,5 +1,5 @@
 -- A chain of tests: the answer where one fails, and where one passes. Assumes nothing.
-use mathlib.Core.Bool.{Bool, true, false, _&&_, _||_}
+use mathlib.Core.Bool.{Bool, true, false, _&&_}
 use mathlib.Core.Path.{_≡_, refl, sym, ap, _∙_}
 
 -- the test is passed, and the answer is that of the rest

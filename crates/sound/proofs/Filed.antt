@@ -1,5 +1,5 @@
 -- The pass over the records: which rows it needs, and that it is the sentences on records. Assumes nothing.
-use Prim.Native.Nat.{ℕ, _+_, _*_, _/_, _%_, _^_, _≤_, _<_}
+use Prim.Native.Nat.{ℕ, _*_, _≤_, _<_}
 use native.Mathlib.Omega.{arith}
 use mathlib.Core.Bool.{Bool, true, false, _&&_, _||_, and-eq-true-iff}
 use mathlib.Core.Logic.{_⊎_, inl, inr}
@@ -10,12 +10,11 @@ use borrow.Author.Tests.{eq-eqb, eqb-false, eqb-true, le-leb, leb-true, lt-ltb, 
 use Rattle.terms.specs.declared.Row.{Row}
 use Rattle.terms.specs.declared.Rec.{Rec}
 use Rattle.terms.specs.Words.{isRead, isWrite, item, key, num, txn}
-use Rattle.rules.specs.Lists.{all, mem, pairs}
+use Rattle.rules.specs.Lists.{all, mem}
 use Rattle.rules.specs.State.{State}
 use Rattle.rules.specs.Sound.{owned}
 use Rattle.rules.specs.Raw.{unpack}
-use Rattle.laws.proofs.Lists.{all-in, all-out, and-both, and-left, and-right, both-ways, mem-out, or-cases, or-left, or-right, passed}
-use Rattle.laws.proofs.Keeping.{any-none}
+use Rattle.laws.proofs.Lists.{all-in, all-out, and-both, and-left, and-right, both-ways, or-cases, or-left, or-right, passed}
 use Rattle.laws.proofs.Rows.{Ascend}
 use Rattle.sound.specs.Records.{filedAfter, filedFrom, keyOf, sorted}
 

@@ -1,8 +1,8 @@
 -- The sentence on the head, test after test. Assumes nothing.
-use Prim.Native.Nat.{ℕ, _+_, _*_}
+use Prim.Native.Nat.{_+_, _*_}
 use mathlib.Core.Bool.{Bool, _&&_}
 use mathlib.Core.Path.{_≡_, ap, _∙_}
-use mathlib.Core.List.{List, map}
+use mathlib.Core.List.{map}
 use lib.Dec.{leb}
 use lib.ListN.{length, length-map}
 use Rattle.terms.specs.Words.{active, committed, num}

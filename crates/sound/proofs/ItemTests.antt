@@ -1,9 +1,9 @@
 -- The tests of one record, of its item's writers and of its word, case by case; and the highest of a set. Assumes nothing.
-use Prim.Native.Nat.{ℕ, suc, _+_, _-_, _*_, _/_, _%_, _^_, _≤_, _<_}
+use Prim.Native.Nat.{ℕ, suc, _*_, _/_, _%_, _^_, _≤_, _<_}
 use native.Mathlib.Omega.{arith}
 use native.Mathlib.Nat.{div-lt-iff-lt-mul, pow-suc}
-use mathlib.Core.Bool.{Bool, true, false, not, _||_, cond}
-use mathlib.Core.Path.{_≡_, refl, sym, ap, subst, _∙_}
+use mathlib.Core.Bool.{Bool, true, false, not, _||_}
+use mathlib.Core.Path.{_≡_, ap, subst, _∙_}
 use mathlib.Core.List.{List}
 use lib.Bits.{bitAnd}
 use lib.Count.{leadingZeros, leading-top}
@@ -12,7 +12,7 @@ use lib.ListN.{getD}
 use lib.Pow.{pow-pos}
 use borrow.Author.Tests.{eq-eqb, ne-eqb}
 use Rattle.terms.specs.declared.Row.{Row}
-use Rattle.terms.specs.Words.{isRead, item}
+use Rattle.terms.specs.Words.{item}
 use Rattle.rules.specs.Raw.{unpack}
 use Rattle.graph.specs.Sets.{apart, digit, member}
 use Rattle.graph.proofs.Sets.{member-past}

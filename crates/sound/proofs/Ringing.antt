@@ -2,27 +2,24 @@
 use Prim.Native.Nat.{ℕ, _^_, _≤_, _<_}
 use native.Mathlib.Omega.{arith}
 use native.Mathlib.Decide.{decLt}
-use mathlib.Core.Bool.{Bool, true, false, not, _&&_, false≢true}
-use mathlib.Core.Logic.{_⊎_, inl, inr}
-use mathlib.Core.Path.{_≡_, refl, sym, ap, subst, _∙_}
+use mathlib.Core.Bool.{true, not, _&&_, false≢true}
+use mathlib.Core.Path.{_≡_, sym, ap, subst, _∙_}
 use mathlib.Core.List.{List}
 use lib.Dec.{T, eqb}
-use lib.ListN.{length, getD, take, List·getD-eq-default}
+use lib.ListN.{length, List·getD-eq-default}
 use lib.Seq.{take-all}
 use borrow.Author.Tests.{eq-eqb, eqb-true, not-true}
-use Rattle.terms.specs.declared.Row.{Row}
 use Rattle.terms.specs.Words.{num}
-use Rattle.rules.specs.Graph.{Cycle, Reaches, Way}
-use Rattle.rules.specs.Lists.{all, any, mem, upfrom}
+use Rattle.rules.specs.Graph.{Way}
+use Rattle.rules.specs.Lists.{any, mem, upfrom}
 use Rattle.rules.specs.State.{State, commits}
-use Rattle.rules.specs.Deps.{Ring, ring}
+use Rattle.rules.specs.Deps.{ring}
 use Rattle.rules.specs.Sound.{lean, tested}
 use Rattle.rules.specs.Spent.{isSpent}
 use Rattle.rules.specs.Raw.{zeroRow}
-use Rattle.laws.proofs.Lists.{T-in, T-out, _∈_, all-in, all-out, and-both, and-left, and-right, any-in, any-out, both-ways, mem-out, passed}
+use Rattle.laws.proofs.Lists.{T-in, T-out, _∈_, all-in, all-out, and-left, and-right, any-in, any-out, both-ways, mem-out}
 use Rattle.laws.proofs.Rings.{ring-decides}
 use Rattle.laws.proofs.Rows.{Ascend}
-use Rattle.laws.proofs.Tables.{mem-upfrom}
 use Rattle.laws.proofs.Versions.{commits-out}
 use Rattle.theory.specs.Edges.{edges}
 use Rattle.theory.proofs.EdgesRings.{rings-same}
@@ -32,7 +29,7 @@ use Rattle.graph.specs.Sets.{edges as inTable, member}
 use Rattle.graph.proofs.Reachable.{ringed-is}
 use Rattle.graph.proofs.Sets.{member-zero}
 use Rattle.sound.specs.Items.{at}
-use Rattle.sound.proofs.Places.{index-of, row-one, stands-at}
+use Rattle.sound.proofs.Places.{index-of, row-one}
 use Rattle.sound.proofs.Seeing.{set-small}
 use Rattle.sound.proofs.Standing.{in-upfrom}
 

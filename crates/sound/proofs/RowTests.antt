@@ -1,17 +1,14 @@
 -- The pass over the rows and its turns; and that it, with distinct moments, is the sentences on rows. Assumes nothing.
 use Prim.Native.Nat.{ℕ, _+_, _≤_, _<_}
-use native.Mathlib.Omega.{arith}
-use mathlib.Core.Bool.{Bool, true, false, not, _&&_, _||_, and-eq-true-iff}
-use mathlib.Core.Path.{_≡_, refl, sym, ap, _∙_}
-use mathlib.Core.List.{List, [], _∷_}
-use lib.Dec.{eqb, ltb, leb}
+use mathlib.Core.Bool.{Bool, true, false, _&&_}
+use mathlib.Core.Path.{_≡_, ap}
+use mathlib.Core.List.{List}
 use lib.ListN.{length, getD, take}
 use Rattle.terms.specs.declared.Row.{Row}
-use Rattle.terms.specs.Words.{active, committed, done, num, start}
-use Rattle.rules.specs.Lists.{all, keep, pairs}
+use Rattle.terms.specs.Words.{num, start}
 use Rattle.rules.specs.Raw.{zeroRow}
 use Rattle.lists.proofs.Scans.{Going, part-next, part-here, part-done}
-use Rattle.sound.specs.Rows.{apartFrom, ascends, endsWell, fineFrom, fineRow}
+use Rattle.sound.specs.Rows.{fineFrom, fineRow}
 
 module _ (next moment n : ℕ) (rs : List Row) (h : n ≤ length rs) (k b : ℕ) {j : ℕ} {v : Bool} (s : Going (take n rs) (fineFrom next moment k b) v j) where
   pub fine-next : j < n → fineRow next moment k b (getD rs j zeroRow) ≡ true → Going (take n rs) (fineFrom next moment (num (getD rs j zeroRow)) (start (getD rs j zeroRow))) v (j + 1)

@@ -1,10 +1,10 @@
 -- Scans beside those of `lists`: all from an index on, how many pass, and each with every later one. Assumes nothing.
-use Prim.Native.Nat.{ℕ, suc, _+_, _≤_, _<_}
+use Prim.Native.Nat.{ℕ, _+_, _≤_, _<_}
 use native.Mathlib.Omega.{arith}
 use native.Mathlib.Nat.{add-zero, zero-add}
 use mathlib.Core.Bool.{Bool, true, false, _&&_, _||_}
 use mathlib.Core.Path.{_≡_, refl, sym, ap, _∙_}
-use mathlib.Core.List.{List, []}
+use mathlib.Core.List.{List}
 use lib.ListN.{length, getD, take, drop, length-take}
 use Rattle.rules.specs.Lists.{all, any, keep, pairs, upfrom}
 use Rattle.lists.proofs.Keeps.{put}

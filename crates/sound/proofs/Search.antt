@@ -3,11 +3,11 @@ use Prim.Native.Nat.{ℕ, zero, suc, _+_, _≤_, _<_, zero-le}
 use native.Mathlib.Omega.{arith}
 use native.Mathlib.Decide.{decLt}
 use native.Mathlib.Numerals.{add-one}
-use mathlib.Core.Bool.{Bool, true, false, not, _&&_, _||_}
-use mathlib.Core.Path.{_≡_, refl, sym, ap, ap₂, subst, _∙_}
+use mathlib.Core.Bool.{Bool, true, false, _||_}
+use mathlib.Core.Path.{_≡_, refl, sym, ap, subst, _∙_}
 use mathlib.Core.List.{List, [], _∷_, _++_, map, map-append}
-use lib.Dec.{eqb, ltb}
-use lib.ListN.{length, getD, set, take, length-set, length-take}
+use lib.Dec.{ltb}
+use lib.ListN.{length, getD, set, take, length-take}
 use lib.Seq.{getD-take, take-suc, take-suc-set}
 use borrow.Author.Tests.{ltb-true, ne-eqb}
 use Rattle.terms.specs.declared.Row.{Row}

@@ -1,34 +1,34 @@
 -- The highest row of an item's writers that ended before a row started is the one whose version the row sees. Assumes nothing.
-use Prim.Native.Nat.{ℕ, zero, suc, _+_, _*_, _^_, _≤_, _<_}
+use Prim.Native.Nat.{ℕ, zero, suc, _^_, _≤_, _<_}
 use native.Mathlib.Omega.{arith}
 use native.Mathlib.Decide.{decLt, ℕ-discrete}
 use native.Mathlib.Nat.{pow-suc}
-use mathlib.Core.Bool.{Bool, true, false, not, _&&_, _||_, cond, false≢true}
+use mathlib.Core.Bool.{Bool, true, false, not, _||_, cond, false≢true}
 use mathlib.Core.Logic.{_⊎_, inl, inr}
-use mathlib.Core.Path.{_≡_, refl, sym, ap, subst, _∙_}
+use mathlib.Core.Path.{_≡_, sym, ap, _∙_}
 use mathlib.Core.List.{List, map, Memᴰ·map, Memᴰ·of-map}
 use lib.Bits.{bitAnd}
-use lib.Dec.{eqb, ltb}
+use lib.Dec.{eqb}
 use lib.ListN.{length, getD, take}
 use lib.Count.{leading-top}
 use lib.Pow.{pow-mono, pow-pos}
-use borrow.Author.Tests.{eq-eqb, eqb-true, lt-ltb, ltb-true, ne-eqb}
+use borrow.Author.Tests.{eq-eqb, lt-ltb, ltb-true, ne-eqb}
 use Rattle.terms.specs.declared.Row.{Row}
 use Rattle.terms.specs.declared.Rec.{Rec}
-use Rattle.terms.specs.Words.{committed, done, isRead, isWrite, item, num, start, txn, writer}
-use Rattle.rules.specs.Lists.{all, any, upfrom}
+use Rattle.terms.specs.Words.{committed, done, isRead, item, num, start, txn, writer}
+use Rattle.rules.specs.Lists.{upfrom}
 use Rattle.rules.specs.State.{State, rowOf, startOf, wrote}
 use Rattle.rules.specs.Versions.{versionAt, visible}
 use Rattle.rules.specs.Sound.{seen, unmixed}
 use Rattle.rules.specs.Raw.{unpack, zeroRow}
-use Rattle.laws.proofs.Lists.{_∈_, all-in, all-out, and-both, and-left, and-right, both-ways, passed}
+use Rattle.laws.proofs.Lists.{all-in, all-out, and-both, and-left, and-right, both-ways}
 use Rattle.laws.proofs.Rows.{row-found}
 use Rattle.laws.proofs.Tables.{mem-upfrom}
 use Rattle.laws.proofs.Versions.{Installed, Unwritten, Writer, recorded-out, stands, writer-in}
 use Rattle.graph.specs.Fill.{Tabled}
 use Rattle.graph.specs.Sets.{edges, member}
 use Rattle.graph.proofs.Sets.{member-and, member-zero}
-use Rattle.sound.specs.Items.{Installers, at, earlierThan, installs, names, namesAll, newestOf, top}
+use Rattle.sound.specs.Items.{Installers, at, earlierThan, names, namesAll, newestOf, top}
 use Rattle.sound.specs.Parts.{held}
 use Rattle.sound.specs.Records.{Owners}
 use Rattle.sound.proofs.ItemTests.{names-other, names-read, top-in, top-last}

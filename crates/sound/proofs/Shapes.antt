@@ -1,21 +1,19 @@
 -- The lengths and zeros of lent tables are what makes them the padded form of their own state. Assumes nothing.
-use Prim.Native.Nat.{ℕ, zero, suc, _+_, _-_, _≤_, _<_}
+use Prim.Native.Nat.{ℕ, zero, suc, _-_, _≤_}
 use native.Mathlib.Omega.{arith}
 use mathlib.Core.Bool.{Bool, true, false, cond, _&&_, and-eq-true-iff}
 use mathlib.Core.Path.{_≡_, refl, sym, ap, _∙_}
-use mathlib.Core.List.{List, [], _∷_, _++_, map}
-use lib.Dec.{eqb, leb}
-use lib.ListN.{length, getD, take, drop, replicate, length-append, length-replicate, length-take, length-drop, length-map, take-append-drop}
-use lib.Seq.{drop-append-le}
+use mathlib.Core.List.{List, [], _∷_, _++_}
+use lib.Dec.{leb}
+use lib.ListN.{length, getD, take, drop, replicate, length-take, length-drop, length-map, take-append-drop}
 use borrow.Author.Tests.{eq-eqb, eqb-true, le-leb, leb-true}
 use Rattle.terms.specs.declared.Row.{Row}
-use Rattle.terms.specs.Words.{done, num, row, start}
-use Rattle.rules.specs.Lists.{all, padded, until}
-use Rattle.rules.specs.State.{State}
+use Rattle.terms.specs.Words.{done, num, start}
+use Rattle.rules.specs.Lists.{all, padded}
 use Rattle.rules.specs.Sound.{sized}
-use Rattle.rules.specs.Raw.{Raw, pack, rawOf, sameRaw, stateOf, unpack, usedRecs, usedRows, zeroRow}
+use Rattle.rules.specs.Raw.{Raw, pack, rawOf, sameRaw, stateOf, unpack, usedRecs, zeroRow}
 use Rattle.lists.specs.Tables.{firstIndex}
-use Rattle.lists.proofs.Pads.{length-padded, take-padded}
+use Rattle.lists.proofs.Pads.{length-padded}
 use Rattle.lists.proofs.Untils.{length-until, until-first}
 use Rattle.laws.proofs.Lists.{and-both, and-left, and-right, both-ways}
 use Rattle.laws.proofs.Raw.{pack-unpack, same-in, same-out}

@@ -1,17 +1,15 @@
 -- All tests, those of dependencies with them, are the soundness of lent tables. Assumes nothing.
-use Prim.Native.Nat.{ℕ, _≤_}
+use Prim.Native.Nat.{ℕ}
 use mathlib.Core.Bool.{Bool, true, false, not, _&&_}
 use mathlib.Core.Path.{_≡_, refl, sym, ap, _∙_}
-use mathlib.Core.List.{List, map}
+use mathlib.Core.List.{List}
 use lib.Dec.{eqb}
 use lib.ListN.{length}
 use native.Mathlib.Omega.{arith}
-use Rattle.terms.specs.declared.Row.{Row}
 use Rattle.rules.specs.Lists.{any, upfrom}
-use Rattle.rules.specs.State.{State}
 use Rattle.rules.specs.Deps.{ring}
 use Rattle.rules.specs.Sound.{lawful, lean, sized, sound, tested}
-use Rattle.rules.specs.Raw.{Raw, rawOf, sameRaw, soundRaw, stateOf, unpack, usedRecs, usedRows}
+use Rattle.rules.specs.Raw.{Raw, rawOf, sameRaw, soundRaw, stateOf}
 use Rattle.lists.specs.Tables.{firstIndex}
 use Rattle.laws.proofs.Lists.{and-both, and-right}
 use Rattle.graph.specs.Reach.{ringed}

@@ -2,25 +2,25 @@
 use Prim.Native.Nat.{ℕ, zero, suc, _+_, _≤_, _<_}
 use native.Mathlib.Omega.{arith}
 use native.Mathlib.Decide.{decLt}
-use mathlib.Core.Bool.{Bool, true, false, not, _&&_, and-eq-true-iff}
-use mathlib.Core.Path.{_≡_, refl, sym, ap, subst, _∙_}
-use mathlib.Core.List.{List, [], _∷_, map, List·Memᴰ·head, List·Memᴰ·tail, Memᴰ·map, Memᴰ·of-map}
-use lib.Dec.{eqb, leb, ltb}
-use lib.ListN.{length, getD, take}
+use mathlib.Core.Bool.{true, _&&_, and-eq-true-iff}
+use mathlib.Core.Path.{_≡_, sym, ap, _∙_}
+use mathlib.Core.List.{List, _∷_, List·Memᴰ·head, List·Memᴰ·tail, Memᴰ·map, Memᴰ·of-map}
+use lib.Dec.{leb, ltb}
+use lib.ListN.{length, take}
 use borrow.Author.Tests.{eq-eqb, eqb-true, leb-true, lt-ltb, ltb-true}
 use Rattle.terms.specs.declared.Row.{Row}
 use Rattle.terms.specs.declared.Rec.{Rec}
-use Rattle.terms.specs.Words.{committed, done, isWrite, item, num, start, txn}
-use Rattle.rules.specs.Lists.{all, any, keep, pairs, upfrom}
+use Rattle.terms.specs.Words.{committed, done, item, num, start, txn}
+use Rattle.rules.specs.Lists.{all, any, pairs, upfrom}
 use Rattle.rules.specs.State.{State, wrote}
 use Rattle.rules.specs.Sound.{numbered, timed}
 use Rattle.rules.specs.Raw.{unpack, zeroRow}
-use Rattle.laws.proofs.Lists.{_∈_, all-out, and-both, and-left, and-right, any-in, any-out, apart, both-ways, keep-in}
+use Rattle.laws.proofs.Lists.{_∈_, all-out, and-both, and-left, and-right, any-in, any-out, apart, keep-in}
 use Rattle.laws.proofs.Rows.{Ascend, Known, pairs-out}
 use Rattle.laws.proofs.Versions.{recorded-in, recorded-out}
 use Rattle.sound.specs.Items.{at, installs}
 use Rattle.sound.specs.Parts.{held}
-use Rattle.sound.proofs.Places.{in-index, index-in, row-rising}
+use Rattle.sound.proofs.Places.{in-index, row-rising}
 
 -- what is known of the rows of a state once the sentences on rows hold
 pub record Ranked (s : State) : Type 0 where

@@ -3,16 +3,15 @@ use Prim.Native.Nat.{ℕ, _≤_}
 use native.Mathlib.Omega.{arith}
 use mathlib.Core.Bool.{Bool, true, false, _&&_, and-eq-true-iff}
 use mathlib.Core.Path.{_≡_, refl, sym, ap, ap₂, subst, _∙_}
-use mathlib.Core.List.{List, [], map}
-use lib.Dec.{eqb, leb, ltb}
+use mathlib.Core.List.{[]}
+use lib.Dec.{eqb, ltb}
 use lib.ListN.{getD, length, take, length-take}
 use borrow.Author.Tests.{eq-eqb, eqb-true, leb-true}
-use Rattle.terms.specs.declared.Row.{Row}
 use Rattle.terms.specs.Words.{key}
 use Rattle.rules.specs.Lists.{pairs}
 use Rattle.rules.specs.State.{State, commits}
 use Rattle.rules.specs.Sound.{based, headed, numbered, ordered, owned, seen, sized, tested, timed, unmixed}
-use Rattle.rules.specs.Raw.{Raw, rawOf, sameRaw, stateOf, unpack}
+use Rattle.rules.specs.Raw.{Raw, rawOf, sameRaw, stateOf}
 use Rattle.lists.specs.Tables.{firstIndex}
 use Rattle.lists.proofs.Untils.{until-first}
 use Rattle.laws.proofs.Lists.{and-both, and-left, and-right, both-ways}
@@ -23,7 +22,7 @@ use Rattle.sound.specs.Rows.{ascends}
 use Rattle.sound.specs.Shape.{isZero, noRow, shaped}
 use Rattle.sound.specs.Told.{LinksTold, testedRaw}
 use Rattle.sound.proofs.Chains.{on, off}
-use Rattle.sound.proofs.Shapes.{first-most, shape-in, shape-same, shape-sized}
+use Rattle.sound.proofs.Shapes.{shape-in, shape-same, shape-sized}
 
 -- what two of the sentences say
 ordered-out : (s : State) → ordered s ≡ true → (ascends (s .rows) ≡ true) × (pairs (λ x y. ltb (key x) (key y)) (s .recs) ≡ true)

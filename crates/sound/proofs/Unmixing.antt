@@ -3,15 +3,15 @@ use Prim.Native.Nat.{ℕ, _≤_, _<_}
 use native.Mathlib.Omega.{arith}
 use mathlib.Core.Bool.{Bool, true, false, not, _&&_, false≢true}
 use mathlib.Core.Logic.{_⊎_, inl, inr}
-use mathlib.Core.Path.{_≡_, refl, sym, ap, subst, _∙_}
-use mathlib.Core.List.{List, map, Memᴰ·map, Memᴰ·of-map}
+use mathlib.Core.Path.{_≡_, sym, ap, _∙_}
+use mathlib.Core.List.{List, Memᴰ·map, Memᴰ·of-map}
 use lib.Dec.{eqb, ltb}
 use lib.ListN.{length, getD, take}
 use borrow.Author.Tests.{eq-eqb, eqb-true, lt-ltb, ltb-true, not-true}
 use Rattle.terms.specs.declared.Row.{Row}
 use Rattle.terms.specs.declared.Rec.{Rec}
 use Rattle.terms.specs.Words.{committed, concurrent, done, isWrite, item, num, start, txn}
-use Rattle.rules.specs.Lists.{all, any, keep, pairs, upfrom}
+use Rattle.rules.specs.Lists.{keep, upfrom}
 use Rattle.rules.specs.State.{State, wrote}
 use Rattle.rules.specs.Deps.{bothWrote}
 use Rattle.rules.specs.Sound.{unmixed}
@@ -23,7 +23,7 @@ use Rattle.laws.proofs.Tables.{mem-upfrom}
 use Rattle.graph.specs.Fill.{Tabled}
 use Rattle.graph.specs.Sets.{edges, member}
 use Rattle.graph.proofs.Sets.{apart-in, apart-out}
-use Rattle.sound.specs.Items.{Installers, at, clashing, clear, clearAll, installs, isInstall}
+use Rattle.sound.specs.Items.{Installers, at, clashing, clear, clearAll, isInstall}
 use Rattle.sound.specs.Parts.{held}
 use Rattle.sound.specs.Records.{Owners}
 use Rattle.sound.proofs.ItemTests.{clear-install, clear-other}

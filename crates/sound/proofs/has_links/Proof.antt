@@ -1,6 +1,5 @@
 -- `sound::has_links` meets its contract: the records, the writers, the items. Assumes nothing.
-use native.Mathlib.Omega.{arith}
-use mathlib.Core.Bool.{Bool, true}
+use mathlib.Core.Bool.{true}
 use mathlib.Core.Path.{_≡_, sym, ap, _∙_}
 use mathlib.Core.List.{List}
 use Prim.Native.Nat.{ℕ}

@@ -1,7 +1,6 @@
 -- `sound::is_tested` meets its contract: test after test. Assumes nothing.
 use native.Mathlib.Omega.{arith}
-use mathlib.Core.Bool.{Bool, true}
-use mathlib.Core.Path.{_≡_, sym, _∙_}
+use mathlib.Core.Path.{sym, _∙_}
 use borrow.Author.Needs.{needs}
 use borrow.Author.Tests.{not-false, not-true}
 use Rattle.laws.proofs.Lists.{and-left}

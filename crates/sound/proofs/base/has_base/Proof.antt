@@ -1,7 +1,7 @@
 -- `sound::base::has_base` meets its contract: `Going`, for all. Assumes nothing.
 use Prim.Native.Nat.{ℕ, _-_}
 use mathlib.Core.Bool.{Bool, not, _&&_}
-use mathlib.Core.Path.{_≡_, sym, ap, _∙_}
+use mathlib.Core.Path.{sym, ap, _∙_}
 use mathlib.Core.List.{List}
 use lib.Dec.{ltb}
 use lib.ListN.{take}

@@ -3,7 +3,6 @@ use mathlib.Core.Bool.{not}
 use mathlib.Core.Path.{sym, ap, _∙_}
 use borrow.Author.Needs.{needs}
 use borrow.Author.Tests.{eq-eqb, ne-eqb}
-use native.Mathlib.Omega.{arith}
 use Rattle.rules.specs.Raw.{unpack}
 use Rattle.sound.proofs.Chains.{on, off}
 use Rattle.sound.proofs.items.is_install.Statement.{statement}

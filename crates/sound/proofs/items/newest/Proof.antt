@@ -1,6 +1,5 @@
 -- `sound::items::newest` meets its contract. Assumes nothing.
 use Prim.Native.Nat.{ℕ}
-use native.Mathlib.Omega.{arith}
 use mathlib.Core.Bool.{Bool, cond}
 use mathlib.Core.Path.{sym, ap, _∙_}
 use lib.ListN.{getD}

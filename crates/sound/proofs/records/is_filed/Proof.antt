@@ -1,11 +1,10 @@
 -- `sound::records::is_filed` meets its contract: test after test. Assumes nothing.
 use native.Mathlib.Omega.{arith}
-use mathlib.Core.Path.{ap, _∙_}
+use mathlib.Core.Path.{ap}
 use lib.Dec.{ltb}
 use borrow.Author.Needs.{needs}
 use borrow.Author.Tests.{le-leb, le-ltb, lt-leb, lt-ltb}
 use Prim.Native.Nat.{ℕ}
-use Rattle.terms.specs.Words.{item}
 use Rattle.rules.specs.Raw.{unpack}
 use Rattle.sound.specs.Records.{filedAfter, keyOf}
 use Rattle.sound.proofs.Chains.{on, off}
