@@ -99,7 +99,7 @@ module _ (vs : List ℕ) (ls : List Line) (s : State) (so : Told vs ls s) where
     pub below-next : t < s .next
     below-next = let u = active-out s t on in omega (arith, so .inv .numbers (u .1) .1, u .2)
 
-    -- a value given-right that is the right one
+    -- a value that is given and is the right one
     pub given-right : (i v : ℕ) → ((m : Store) → ((j : ℕ) → hasRead s t j ≡ true → m j ≡ visible s t j .value) → leaves m (acts t ls) i ≡ v)
         → Acts s t (acts t ls ++ (got i v ∷ []))
     unfolding leaves

@@ -1,3 +1,4 @@
+-- `edges::mark` meets its contract: the records of one row at the front, marked one after the other. Assumes nothing.
 use mathlib.Core.Path.{refl, _∙_, ap, sym}
 use Rattle.edges.proofs.Marks.{turn-read, turn-write, Marking, mark-start, mark-stop, mark-done}
 -- `edges::mark` meets its contract: `Marking`. Assumes nothing.

@@ -1,3 +1,4 @@
+-- `edges::spent` meets its contract: the committed rows that no young one reaches. Assumes nothing.
 use Prim.Native.Nat.{ℕ}
 use Rattle.edges.specs.Blocks.{usedCount}
 use Rattle.edges.specs.Times.{placed, since}

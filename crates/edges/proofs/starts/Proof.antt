@@ -1,3 +1,4 @@
+-- `edges::starts` meets its contract: the starts of the rows before the first unused one. Assumes nothing.
 use Rattle.lists.proofs.Scans.{first-here, first-done}
 use borrow.Author.Tests.{eq-eqb, ne-eqb}
 use Rattle.edges.proofs.Cuts.{start-none, Starting, start-next}

@@ -1,3 +1,4 @@
+-- `taking::pass` meets its contract: for each item the latest version of a row that goes, record after record. Assumes nothing.
 use Prim.Native.Nat.{_≤_, ℕ, _-_}
 use mathlib.Core.Path.{subst, _≡_, refl, _∙_, ap, sym}
 use native.Mathlib.Omega.{arith}

@@ -1,3 +1,4 @@
+-- `taking::rows_without` meets its contract: the rows that stay, one after the other, and zero rows after them. Assumes nothing.
 use borrow.Author.Tests.{not-true, not-false}
 -- `taking::rows_without` meets its contract: `Leaving`. Assumes nothing.
 use borrow.Author.Needs.{needs}
