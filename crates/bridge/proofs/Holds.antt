@@ -70,6 +70,16 @@ version-used w i b l =
       | suc v ↦ version (suc v) (wordIn (suc v) i 2 (stateOf w .recs))
     ]
 
+-- a state of which the facts hold, and whose records have room in packed ones, has room in the tables
+pub fits-of : (s : State) → Facts s → ((x : Rec) → x ∈ s .recs → Packs x) → Fits s
+fits-of s v p = record {
+  values = v .sizes .0;
+  writers = v .sizes .1;
+  numbers = λ k. v .numbers k .0;
+  packs = λ k. p _ k;
+  kinds = λ k. ⊎-elim (λ e. omega arith) (λ e. omega arith) (v .kinds k);
+}
+
 -- ---- sound tables
 pub record Holds (n m : ℕ) (w : Raw) : Type 0 where
   pub same : rawOf n m (stateOf w) ≡ w
@@ -98,13 +108,7 @@ module _ (n m : ℕ) (w : Raw) (h : soundRaw n m w ≡ true) where
     rows-few = few .0;
     recs-few = few .1;
     facts = facts-in;
-    fits = record {
-      values = facts-in .sizes .0;
-      writers = facts-in .sizes .1;
-      numbers = λ k. facts-in .numbers k .0;
-      packs = λ k. packs-in _ k;
-      kinds = λ k. ⊎-elim (λ e. omega arith) (λ e. omega arith) (facts-in .kinds k);
-    };
+    fits = fits-of (stateOf w) facts-in packs-in;
   }
 
 module _ (n m : ℕ) (w : Raw) (h : Holds n m w) where

@@ -5,6 +5,7 @@ pub mod Timings
 pub mod Draws
 pub mod Places
 pub mod Rowed
+pub mod Ways
 pub mod Blocked
 pub mod Touching
 pub mod Telling

@@ -4,11 +4,10 @@ use native.Mathlib.Omega.{arith}
 use mathlib.Core.Bool.{Bool, true, false, not, _&&_, _||_, false≢true}
 use mathlib.Core.List.{List}
 use mathlib.Core.Logic.{_⊎_, inl, inr}
-use mathlib.Core.Path.{_≡_, refl, sym, ap, subst, _∙_}
+use mathlib.Core.Path.{_≡_, refl, sym, ap, _∙_}
 use lib.Dec.{T, ltb, leb, eqb}
 use lib.ListN.{length}
 use borrow.Author.Tests.{lt-ltb, ltb-true, not-true, leb-true, eqb-true}
-use Rattle.rules.specs.Graph.{Way}
 use Rattle.rules.specs.Lists.{all, mem}
 use Rattle.rules.specs.Raw.{usedRows}
 use Rattle.rules.specs.Sound.{lawful}
@@ -25,7 +24,6 @@ use Rattle.graph.proofs.Ways.{closed-way}
 use Rattle.graph.proofs.Sets.{member-outside}
 use Rattle.theory.specs.Edges.{edges}
 use Rattle.theory.proofs.EdgesRings.{spent-reached}
-use Rattle.theory.proofs.EdgesSame.{edges-out}
 use Rattle.theory.proofs.Facts.{Facts, lawful-facts}
 use Rattle.theory.proofs.Consequences.{row-of}
 use Rattle.edges.specs.Blocks.{at, usedCount}
@@ -34,8 +32,9 @@ use Rattle.edges.specs.Times.{placed, since}
 use Rattle.edges.specs.Told.{SpentTold}
 use Rattle.edges.proofs.Indexes.{first-most}
 use Rattle.edges.proofs.Limits.{limit-used, limit-is, limit-positive}
-use Rattle.edges.proofs.Rowed.{committed-at, committed-is, count-of, here, one-place, place-of, placed-is, starts-ascend}
+use Rattle.edges.proofs.Rowed.{committed-at, committed-is, count-of, here, place-of, placed-is, starts-ascend}
 use Rattle.edges.proofs.Timings.{since-one}
+use Rattle.edges.proofs.Ways.{bound, way-in, way-out}
 
 -- a state whose rows are the used ones, and a table of sets that has its edges
 module _ (rs : List Row) (g : List ℕ) (s : State) (h : lawful s ≡ true) (rows : s .rows ≡ usedRows rs)
@@ -51,20 +50,6 @@ module _ (rs : List Row) (g : List ℕ) (s : State) (h : lawful s ≡ true) (row
 
   abbrev len : ℕ
   len = length (s .rows)
-
-  -- ---- ways in the table and in the state
-  ends : (i j : ℕ) → T (inTable g i j) → (i < len) × (j < len)
-  ends i j t = let u = edges-out s (N i) (N j) (subst T (e i j) t) in (committed-at s v i (u .0) .0, committed-at s v j (u .1) .0)
-
-  way-out : {i j : ℕ} → Way (inTable g) i j → Way (edges s) (N i) (N j)
-  way-out Way.end = Way.end
-  way-out (Way.step {a} {b} t w) = Way.step (subst T (e a b) t) (way-out w)
-
-  way-in : {a b : ℕ} → Way (edges s) a b → (i : ℕ) → i < len → N i ≡ a → (j : ℕ) → j < len → N j ≡ b → Way (inTable g) i j
-  way-in Way.end i li ei j lj ej = subst (λ (n : ℕ). Way (inTable g) i n) (one-place s v i j li lj (ei ∙ sym ej)) Way.end
-  way-in (Way.step {a} {b} t w) i li ei j lj ej =
-      let c = place-of s v (edges-out s a b t .1) in
-      Way.step (subst T (sym (e i (c .0))) (subst (λ (n : ℕ). T (edges s n (N (c .0)))) (sym ei) (subst (λ (n : ℕ). T (edges s a n)) (sym (c .2)) t))) (way-in w (c .0) (c .1) (c .2) j lj ej)
 
   -- ---- the committed rows that are not old
   module _ (top : ℕ) (last : s .moment ≤ top) (young among : ℕ) (ys : (j : ℕ) → member young j ≡ placed (since (limitOf top rs)) rs (usedCount rs) j)
@@ -118,7 +103,7 @@ module _ (rs : List Row) (g : List ℕ) (s : State) (h : lawful s ≡ true) (row
       seeds-low i t = let u = committed-at s v i (mem-out _ _ (and-left _ _ (sym (young-is i) ∙ T-out _ t))) .0 in omega arith
 
       from-young : Reached (inTable g) (member young) (reachable k (inTable g) (member young))
-      from-young = reachable-reached k (inTable g) (λ i j t. let u = ends i j t in (omega (arith, u .0), omega (arith, u .1))) (member young) seeds-low
+      from-young = reachable-reached k (inTable g) (bound s v g e k room) (member young) seeds-low
 
       pub spent-is : (i : ℕ) → (member among i && not (reachable k (inTable g) (member young) i)) ≡ isSpent s (N i)
       spent-is i = both-ways _ _ there back
@@ -133,7 +118,7 @@ module _ (rs : List Row) (g : List ℕ) (s : State) (h : lawful s ≡ true) (row
                     let c = place-of s v ma in
                     let seed = T-in (young-is (c .0) ∙ and-both _ _ (ap (λ (n : ℕ). mem n (commits s)) (c .2) ∙ mem-in a (commits s) ma) (ap not (ap (old s) (c .2) ∙ o))) in
                     false≢true (sym free ∙ T-out (reachable k (inTable g) (member young) i) (closed-way (reachable k (inTable g) (member young)) (from-young .closed) (from-young .has (c .0) seed)
-                    (way-in w (c .0) (c .1) (c .2) i (committed-at s v i m .0) refl))),
+                    (way-in s v g e w (c .0) (c .1) (c .2) i (committed-at s v i m .0) refl))),
               ))
 
           back : isSpent s (N i) ≡ true → (member among i && not (reachable k (inTable g) (member young) i)) ≡ true
@@ -146,7 +131,7 @@ module _ (rs : List Row) (g : List ℕ) (s : State) (h : lawful s ≡ true) (row
               pick p (inl r) =
                   let o = from-young .only i (T-in r) in
                   let y = sym (young-is (o .0)) ∙ T-out _ (o .1) in
-                  absurd (spent-reached s h (N i) .0 p .1 (N (o .0)) (mem-out _ _ (and-left _ _ y)) (not-true _ (and-right (mem (N (o .0)) (commits s)) _ y)) (way-out (o .2)))
+                  absurd (spent-reached s h (N i) .0 p .1 (N (o .0)) (mem-out _ _ (and-left _ _ y)) (not-true _ (and-right (mem (N (o .0)) (commits s)) _ y)) (way-out s v g e (o .2)))
 
 -- the set that is left tells the spent rows
 pub spent-told : (k top : ℕ) → 131072 ≤ top → (rs : List Row) (g : List ℕ) → length rs ≤ k → (young among reached : ℕ) {r : ℕ} → among < 2 ^ k → reached < 2 ^ k

@@ -70,7 +70,7 @@ module _ (m : Machine) (s : State) where
   unsound-first (Abort t) o u = first (Abort t) _ u refl
   unsound-first (Latest i) o u = first (Latest i) _ u refl
 
-on-unsound : (n m : ℕ) (w : Raw) (x : Call) → soundRaw n m w ≡ false → onSound n m x w ≡ (UnsoundTables, w)
+pub on-unsound : (n m : ℕ) (w : Raw) (x : Call) → soundRaw n m w ≡ false → onSound n m x w ≡ (UnsoundTables, w)
 unfolding onSound
 on-unsound n m w x u = rw (u, onSound) refl
 

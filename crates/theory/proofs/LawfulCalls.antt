@@ -100,7 +100,8 @@ module _ (n m : ℕ) (s : State) (h : lawful s ≡ true) where
   last-write t i w false false true true p q = h
   last-write t i w false false true false p q = last-put (t .0) q (rec (t .0) (i .0) 2 w) refl (leb-false (s .count) (i .0) p) (inr refl) (λ e. absurd (omega arith))
 
-  last-drop : (t : ℕ) → Active s t → lawful (dropped s t) ≡ true
+  -- a transaction ends, and leaves nothing
+  pub last-drop : (t : ℕ) → Active s t → lawful (dropped s t) ≡ true
   last-drop t a =
       ap lawful (dropped-is s t (v .sizes) (its-row s v t a)) ∙ lawful-from (forget (λ k. eqb k t) s) (facts-dropped s v t a) (free-dropped s v t a free)
 

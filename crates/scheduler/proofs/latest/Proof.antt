@@ -1,33 +1,22 @@
--- `scheduler::latest` meets its contract: each return is an outcome of the call on sound tables. Assumes nothing.
-use native.Mathlib.Omega.{arith}
-use mathlib.Core.Path.{sym}
+-- `scheduler::latest` meets its contract: the tables are unsound, or the call on sound tables answers. Assumes nothing.
+use mathlib.Core.Path.{_∙_, sym}
 use borrow.Author.Needs.{needs}
-use Rattle.scheduler.proofs.Accesses.{findable, latest-done, latest-unknown}
-use Rattle.scheduler.proofs.Tables.{head-long}
+use borrow.Author.Tests.{not-false, not-true}
+use Rattle.laws.proofs.Refusals.{on-unsound}
 use Rattle.scheduler.proofs.latest.Statement.{statement}
 use Rattle.scheduler.proofs.latest.Tie as tie
 
-shared-slice-read-if1 : tie.Need-shared-slice-read-if1
-shared-slice-read-if1 c = omega (arith, head-long 32 256 _ (c .before .before .before .before .before .pre))
+sound-requires : tie.Need-sound-requires
+sound-requires c κs = search needs
 
 returns : tie.Need-returns
-returns c = sym (latest-unknown 32 256 _ (c .before .before .before .before .before .before .before .pre) _ (c .if1 .taken))
+returns c = sym (on-unsound 32 256 _ _ (sym (c .before .sound .ensures) ∙ not-true _ (c .if1 .taken)))
 
-shared-slice-read-t10 : tie.Need-shared-slice-read-t10
-shared-slice-read-t10 c = omega (arith, head-long 32 256 _ (c .before .before .before .before .before .before .before .before .pre))
-
-visible-requires : tie.Need-visible-requires
-visible-requires c κs = findable 32 256 _ (c .before .before .before .before .before .before .before .before .pre) _ (c .before .if1 .left)
+latest-requires : tie.Need-latest-requires
+latest-requires c κs = sym (c .before .sound .ensures) ∙ not-false _ (c .if1 .left)
 
 returns-2 : tie.Need-returns-2
-returns-2 c = sym (latest-done 32 256 _ (c .before .before .before .before .before .before .before .before .before .pre) _ (c .before .before .if1 .left) _ (c .visible .ensures))
+returns-2 c = search needs
 
 pub latest-spec : {M : Type 1} → statement M
-latest-spec =
-    tie.close
-    (tie.spec
-    shared-slice-read-if1
-    returns
-    shared-slice-read-t10
-    visible-requires
-    returns-2)
+latest-spec = tie.close (tie.spec sound-requires returns latest-requires returns-2)

@@ -4,3 +4,4 @@ pub mod Fills
 pub mod Opens
 pub mod Begins
 pub mod Accesses
+pub mod Ends

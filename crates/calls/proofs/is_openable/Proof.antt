@@ -1,8 +1,8 @@
--- `scheduler::is_openable` meets its contract: each test's outcome, put into `openable`. Assumes nothing.
+-- `calls::is_openable` meets its contract: each test's outcome, put into `openable`. Assumes nothing.
 use borrow.Author.Tests.{le-leb, lt-leb}
 use Rattle.rules.specs.Machine.{openable}
-use Rattle.scheduler.proofs.is_openable.Statement.{statement}
-use Rattle.scheduler.proofs.is_openable.Tie as tie
+use Rattle.calls.proofs.is_openable.Statement.{statement}
+use Rattle.calls.proofs.is_openable.Tie as tie
 
 returns : tie.Need-returns
 unfolding openable

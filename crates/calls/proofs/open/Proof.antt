@@ -1,12 +1,12 @@
--- `scheduler::open` meets its contract: each return is an outcome of an opening of lent tables. Assumes nothing.
+-- `calls::open` meets its contract: each return is an outcome of an opening of lent tables. Assumes nothing.
 use native.Mathlib.Omega.{arith}
 use mathlib.Core.Path.{_∙_, sym}
 use lib.ListN.{length-set}
 use borrow.Author.Needs.{needs}
 use borrow.Author.Tests.{not-false, not-true}
-use Rattle.scheduler.proofs.Opens.{counted, long, open-count, open-made, open-misfit}
-use Rattle.scheduler.proofs.open.Statement.{statement}
-use Rattle.scheduler.proofs.open.Tie as tie
+use Rattle.calls.proofs.Opens.{counted, long, open-count, open-made, open-misfit}
+use Rattle.calls.proofs.open.Statement.{statement}
+use Rattle.calls.proofs.open.Tie as tie
 
 is-openable-requires : tie.Need-is-openable-requires
 is-openable-requires c κs = search needs

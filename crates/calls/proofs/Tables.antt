@@ -8,7 +8,7 @@ use lib.ListN.{getD, length}
 use borrow.Author.Tests.{eq-eqb}
 use Rattle.rules.specs.Raw.{Raw, soundRaw, stateOf}
 use Rattle.rules.specs.Public.{fitting}
-use Rattle.bridge.proofs.Holds.{head-is, holds}
+use Rattle.bridge.proofs.Holds.{head-is, holds, values-long, writers-long}
 
 module _ (n m : ℕ) (w : Raw) (h : soundRaw n m w ≡ true) where
   pub head-long : length (w .head) ≡ 3
@@ -21,6 +21,10 @@ module _ (n m : ℕ) (w : Raw) (h : soundRaw n m w ≡ true) where
   pub moment-small : getD (w .head) 2 0 < 131072
   unfolding stateOf
   moment-small = omega (arith, holds n m w h .facts .high, next-small)
+
+  -- the value tables have an entry for each of 256 items
+  pub long-tables : (length (w .values) ≡ 256) × (length (w .writers) ≡ 256)
+  long-tables = (values-long n m w (holds n m w h), writers-long n m w (holds n m w h))
 
 -- four lengths are right: the tables fit if the records do
 pub fitting-by : (n m : ℕ) (w : Raw) → length (w .head) ≡ 3 → length (w .values) ≡ 256 → length (w .writers) ≡ 256 → length (w .rows) ≡ n

@@ -16,7 +16,7 @@ use Rattle.bridge.specs.Whole.{rowsIn}
 use Rattle.bridge.proofs.Holds.{head-is, holds, rows-used}
 use Rattle.bridge.proofs.HeldChanges.{add-held}
 use Rattle.laws.proofs.Raw.{held}
-use Rattle.scheduler.proofs.Outcomes.{accept, refuse, sane}
+use Rattle.calls.proofs.Outcomes.{accept, refuse, sane}
 
 module _ (n m : ℕ) (w : Raw) (h : soundRaw n m w ≡ true) where
   pub begin-last : getD (w .head) 1 0 ≡ 65536 → onSound n m Begin w ≡ (NumbersUsedUp, w)

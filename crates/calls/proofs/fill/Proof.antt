@@ -1,11 +1,11 @@
--- `scheduler::fill` meets its contract: `Filling`. Assumes nothing.
+-- `calls::fill` meets its contract: `Filling`. Assumes nothing.
 use Prim.Native.Nat.{_-_}
 use native.Mathlib.Omega.{arith}
 use lib.ListN.{length, length-set}
 use borrow.Author.Needs.{needs}
-use Rattle.scheduler.proofs.Fills.{Filling, fill-done, fill-next, fill-start}
-use Rattle.scheduler.proofs.fill.Statement.{statement}
-use Rattle.scheduler.proofs.fill.Tie as tie
+use Rattle.calls.proofs.Fills.{Filling, fill-done, fill-next, fill-start}
+use Rattle.calls.proofs.fill.Statement.{statement}
+use Rattle.calls.proofs.fill.Tie as tie
 
 abbrev Inv-loop : tie.InvT-loop
 Inv-loop values₀ start i₀ values i = Filling start values₀ values i

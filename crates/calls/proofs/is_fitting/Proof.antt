@@ -1,12 +1,12 @@
--- `scheduler::is_fitting` meets its contract: each test's outcome, put into `fitting`. Assumes nothing.
+-- `calls::is_fitting` meets its contract: each test's outcome, put into `fitting`. Assumes nothing.
 use mathlib.Core.Path.{_≡_}
 use lib.ListN.{length}
 use borrow.Author.Needs.{needs}
 use borrow.Author.Tests.{eq-eqb, ne-eqb}
 use Rattle.rules.specs.Public.{fitting}
-use Rattle.scheduler.proofs.Tables.{fitting-by}
-use Rattle.scheduler.proofs.is_fitting.Statement.{statement}
-use Rattle.scheduler.proofs.is_fitting.Tie as tie
+use Rattle.calls.proofs.Tables.{fitting-by}
+use Rattle.calls.proofs.is_fitting.Statement.{statement}
+use Rattle.calls.proofs.is_fitting.Tie as tie
 
 returns : tie.Need-returns
 unfolding fitting

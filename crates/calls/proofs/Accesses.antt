@@ -25,7 +25,7 @@ use Rattle.theory.proofs.RawRuns.{writer-given}
 use Rattle.bridge.specs.Whole.{putIn, putOver, recsIn, usedOf}
 use Rattle.bridge.proofs.HeldChanges.{change-held, insert-held}
 use Rattle.bridge.proofs.Holds.{active-used, holds, known-used, recorded-used, recs-full, recs-room, row-used, values-long, version-used, word-used, writers-long}
-use Rattle.scheduler.proofs.Outcomes.{accept, refuse, sane}
+use Rattle.calls.proofs.Outcomes.{accept, refuse, sane}
 
 module _ (n m : ℕ) (w : Raw) (h : soundRaw n m w ≡ true) where
   abbrev Used : State

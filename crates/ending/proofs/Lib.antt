@@ -1,0 +1,5 @@
+pub mod Places
+pub mod Standing
+pub mod Tidying
+pub mod Dropping
+pub mod Committing
