@@ -1,0 +1,5 @@
+pub mod Numbers
+pub mod Bodies
+pub mod Unfold
+pub mod Spelling
+pub mod Puts

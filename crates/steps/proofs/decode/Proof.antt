@@ -1,0 +1,26 @@
+use borrow.Author.Needs.{needs}
+use Rattle.steps.proofs.decode.Statement.{statement}
+use Rattle.steps.proofs.decode.Tie as tie
+use Rattle.steps.proofs.decode.Reads as reads
+use Rattle.steps.proofs.decode.Lts as lts
+use Rattle.steps.proofs.step_length.Reads as step-length-reads
+use Rattle.steps.proofs.step_of.Reads as step-of-reads
+
+-- src/lib.rt:87:9
+step-length-requires : tie.Need-step-length-requires
+step-length-requires c κs = search needs
+
+-- src/lib.rt:89:9
+returns : tie.Need-returns
+returns c = ?
+
+-- src/lib.rt:91:19
+step-of-requires : tie.Need-step-of-requires
+step-of-requires c κs = search needs
+
+-- src/lib.rt:84:1
+returns-2 : tie.Need-returns-2
+returns-2 c = ?
+
+pub decode-spec : {M : Type 1} → statement M
+decode-spec = tie.close (tie.spec step-length-requires returns step-of-requires returns-2)

@@ -1,0 +1,30 @@
+use borrow.Author.Needs.{needs}
+use Rattle.steps.proofs.step_length.Statement.{statement}
+use Rattle.steps.proofs.step_length.Tie as tie
+use Rattle.steps.proofs.step_length.Reads as reads
+use Rattle.steps.proofs.step_length.Lts as lts
+use Rattle.steps.proofs.length_of.Reads as length-of-reads
+
+-- src/lib.rt:58:9
+returns : tie.Need-returns
+returns c = ?
+
+-- src/lib.rt:60:23
+shared-slice-read-length-of : tie.Need-shared-slice-read-length-of
+shared-slice-read-length-of c = search needs
+
+-- src/lib.rt:60:9
+length-of-requires : tie.Need-length-of-requires
+length-of-requires c κs = search needs
+
+-- src/lib.rt:62:9
+returns-2 : tie.Need-returns-2
+returns-2 c = ?
+
+-- src/lib.rt:54:1
+returns-3 : tie.Need-returns-3
+returns-3 c = ?
+
+pub step-length-spec : {M : Type 1} → statement M
+step-length-spec =
+    tie.close (tie.spec returns shared-slice-read-length-of length-of-requires returns-2 returns-3)
