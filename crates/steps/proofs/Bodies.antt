@@ -33,6 +33,12 @@ pub unknown-length : (k : ℕ) → 6 < k → lengthOf k ≡ 0
 unfolding lengthOf
 unknown-length k l = List·getD-eq-default (3 ∷ 1 ∷ 5 ∷ 9 ∷ 3 ∷ 3 ∷ 3 ∷ []) 0 {n = k} (omega arith)
 
+-- the kinds but 0 to 3 are three bytes long
+pub three : (k : ℕ) → 3 < k → k ≤ 6 → 3 ≡ lengthOf k
+unfolding lengthOf
+three k m l =
+    by-kind (λ k. 3 < k → 3 ≡ lengthOf k) (λ m. absurd (omega arith)) (λ m. absurd (omega arith)) (λ m. absurd (omega arith)) (λ m. absurd (omega arith)) (λ m. refl) (λ m. refl) (λ m. refl) k l m
+
 module _ (p : List ℕ) where
   -- ---- the length of the step at the front
 
@@ -43,6 +49,14 @@ module _ (p : List ℕ) where
   pub whole-cut : length p < lengthOf (kindOf p) → whole p ≡ 0
   unfolding whole
   whole-cut l = rw (lt-leb (lengthOf (kindOf p)) (length p) l)
+
+  pub whole-none : length p ≡ 0 → whole p ≡ 0
+  unfolding lengthOf
+  whole-none e = whole-cut (none p e)
+    where
+      none : (p : List ℕ) → length p ≡ 0 → length p < lengthOf (kindOf p)
+      none [] e = omega arith
+      none (b ∷ q) e = absurd (omega arith)
 
   -- the step is there with all its bytes, or there is none
   pub whole-cases : ((whole p ≡ lengthOf (kindOf p)) × (lengthOf (kindOf p) ≤ length p)) ⊎ ((whole p ≡ 0) × (length p < lengthOf (kindOf p)))
@@ -58,6 +72,21 @@ module _ (p : List ℕ) where
 
   pub whole-is : 0 < whole p → (whole p ≡ lengthOf (kindOf p)) × (lengthOf (kindOf p) ≤ length p)
   whole-is h = elim whole-cases [ inl v ↦ v | inr (e, l) ↦ absurd (omega (arith, e, h)) ]
+
+  -- a step of a kind that is there has room
+  pub room : {k : ℕ} → 0 < whole p → kindOf p ≡ k → lengthOf k ≤ length p
+  room h e = rw (sym e) (whole-is h .1)
+
+  -- above 5 there is one kind
+  pub last-kind : 0 < whole p → 5 < kindOf p → kindOf p ≡ 6
+  last-kind h l = go (leb (kindOf p) 6) refl
+    where
+      go : (b : Bool) → leb (kindOf p) 6 ≡ b → kindOf p ≡ 6
+      go true e = omega (arith, leb-true (kindOf p) 6 e, l)
+      go false e = absurd (omega (arith, unknown-length (kindOf p) (leb-false (kindOf p) 6 e), whole-is h .0, h))
+
+  pub step-is : {k : ℕ} {s : Step} → kindOf p ≡ k → s ≡ stepOf k p → s ≡ stepOf (kindOf p) p
+  step-is e h = h ∙ ap (λ (k : ℕ). stepOf k p) (sym e)
 
   -- ---- decoding
 

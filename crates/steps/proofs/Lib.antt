@@ -1,5 +1,6 @@
 pub mod Numbers
 pub mod Bodies
 pub mod Unfold
+pub mod Counts
 pub mod Spelling
 pub mod Puts

@@ -1,6 +1,7 @@
 -- Numbers in bytes: what is written is read back, and what is read is written back. Assumes nothing.
 use Prim.Native.Nat.{ℕ, zero, suc, _+_, _*_, _/_, _%_, _<_, _≤_, _^_}
 use native.Mathlib.Nat.{pow-succ'}
+use native.Mathlib.Numerals.{add-one}
 use native.Mathlib.Omega.{arith}
 use mathlib.Core.Bool.{true, and-eq-true-iff}
 use mathlib.Core.List.{List, [], _∷_, _++_}
@@ -70,11 +71,29 @@ module _ (p : List ℕ) (h : all byte p ≡ true) (at k : ℕ) where
   field-small = number-small k (take k (drop at p)) (simp length-take (omega arith)) (byte-take k (drop at p) (byte-drop at p h))
 
 -- a field by its bytes
-module _ (p : List ℕ) (at : ℕ) where
-  pub field-none : field at 0 p ≡ 0
+module _ (p : List ℕ) where
+  field-next : (at k : ℕ) → at < length p → field at (suc k) p ≡ getD p at 0 + 256 * field (at + 1) k p
   unfolding field number
-  field-none = refl
+  field-next at k l = rw add-one (ap (λ (q : List ℕ). number (take (suc k) q)) (drop-cons p at 0 l))
 
-  pub field-next : (k : ℕ) → at < length p → field at (suc k) p ≡ getD p at 0 + 256 * field (suc at) k p
+  -- two bytes, and what is read in the bytes after them
+  field-two : (at k : ℕ) → at + 1 < length p → field at (suc (suc k)) p ≡ getD p at 0 + 256 * (getD p (at + 1) 0 + 256 * field (at + 2) k p)
+  field-two at k l =
+      let two : at + 1 + 1 ≡ at + 2 = omega arith in
+      field-next at (suc k) (omega arith)
+      ∙ ap (λ (n : ℕ). getD p at 0 + 256 * n) (field-next (at + 1) k l ∙ ap (λ (a : ℕ). getD p (at + 1) 0 + 256 * field a k p) two)
+
+  field-none : (at : ℕ) → field at 0 p ≡ 0
   unfolding field number
-  field-next k l = ap (λ (q : List ℕ). number (take (suc k) q)) (drop-cons p at 0 l)
+  field-none at = refl
+
+  pub two-bytes : (at : ℕ) {a b : ℕ} → at + 2 ≤ length p → a ≡ getD p at 0 → b ≡ getD p (at + 1) 0 → a + 256 * b ≡ field at 2 p
+  two-bytes at l e f = omega (arith, e, f, field-two at 0 (omega arith), field-none (at + 2))
+
+  pub four-bytes : (at : ℕ) {a b c d : ℕ} → at + 4 ≤ length p → a ≡ getD p at 0 → b ≡ getD p (at + 1) 0 → c ≡ getD p (at + 2) 0 → d ≡ getD p (at + 3) 0
+      → a + 256 * b + 65536 * c + 16777216 * d ≡ field at 4 p
+  four-bytes at l e f g h =
+      let three : at + 2 + 1 ≡ at + 3 = omega arith in
+      let two : field (at + 2) 2 p ≡ getD p (at + 2) 0 + 256 * (getD p (at + 3) 0 + 256 * 0) =
+            field-two (at + 2) 0 (omega arith) ∙ (λ j. getD p (at + 2) 0 + 256 * (getD p (three j) 0 + 256 * field-none (at + 2 + 2) j)) in
+      omega (arith, e, f, g, h, field-two at 2 (omega arith), two)

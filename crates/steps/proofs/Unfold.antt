@@ -4,12 +4,17 @@ use native.Mathlib.Nat.{add-zero}
 use native.Mathlib.Omega.{arith}
 use mathlib.Core.List.{List, [], _∷_}
 use mathlib.Core.Path.{_≡_, _∙_, ap, refl, sym}
-use lib.ListN.{drop, length}
+use lib.ListN.{drop, length, length-drop, take}
+use lib.Seq.{take-all}
 use Rattle.terms.specs.declared.Step.{Step}
 use Rattle.steps.specs.declared.Decoded.{Decoded}
 use Rattle.steps.specs.declared.Decoded.the-variants.{Bad, Good}
 use Rattle.steps.specs.Decoding.{BadAt, Contents, Done, andThen, contents, contentsFrom, decoded, onward}
 use Rattle.steps.proofs.Bodies.{good-length}
+
+-- the part of a file from an offset to its end, as a slice is taken
+pub part-on : (file : List ℕ) (at : ℕ) → take (length file - at) (drop at file) ≡ drop at file
+part-on file at = take-all (length file - at) (drop at file) (omega (arith, length-drop at file))
 
 -- passing over some bytes is to start behind them
 contents-past : (at k : ℕ) (p : List ℕ) → contentsFrom at k p ≡ contentsFrom (at + k) 0 (drop k p)

@@ -22,9 +22,9 @@ field at k p = number (take k (drop at p))
 unfoldable pub lengthOf : ℕ → ℕ
 lengthOf kind = getD (3 ∷ 1 ∷ 5 ∷ 9 ∷ 3 ∷ 3 ∷ 3 ∷ []) kind 0
 
--- the first byte of a part; an empty part has none, and so an unknown kind
+-- the first byte of a part; an empty part counts as a cut step of kind 0
 abbrev pub kindOf : List ℕ → ℕ
-kindOf p = getD p 0 255
+kindOf p = getD p 0 0
 
 -- how long the step at the front of a part is; 0 where its kind is unknown or its body is cut
 unfoldable pub whole : List ℕ → ℕ

@@ -4,14 +4,14 @@ use mathlib.Core.Bool.{true}
 use mathlib.Core.List.{List, [], _++_}
 use mathlib.Core.Logic.{_⊎_}
 use mathlib.Core.Path.{_≡_}
-use lib.ListN.{getD, length}
+use lib.ListN.{length}
 use Rattle.rules.specs.Lists.{all}
 use Rattle.steps.specs.Format.{bytesOfAll, writable}
-use Rattle.steps.specs.Decoding.{BadAt, Contents, Done, End, lengthOf}
+use Rattle.steps.specs.Decoding.{BadAt, Contents, Done, End, kindOf, lengthOf}
 
 -- "unknown kind or cut body": the first byte is above 6, or there are fewer bytes than its kind has
 abbrev pub BadRest : List ℕ → Type 0
-BadRest p = (0 < length p) × ((6 < getD p 0 0) ⊎ (length p < lengthOf (getD p 0 0)))
+BadRest p = (0 < length p) × ((6 < kindOf p) ⊎ (length p < lengthOf (kindOf p)))
 
 -- what follows the last step, at an offset: nothing, or a bad step; "10 gives the offset of the kind byte"
 pub data Ending (at : ℕ) : List ℕ → End → Type 0 where

@@ -16,7 +16,7 @@ pub enum Decoded {
 }
 
 fn wide(b: u8) -> u32
-    ensures { λ r. ⌜ r ≡ b ⌝ }
+    ensures { λ r. ⌜ (r ≡ b) × (r < 256) ⌝ }
 {
     b as u32
 }
@@ -118,5 +118,5 @@ pub fn put_answer(out: &mut [u8], at: usize, g: Given)
     out[at + 1] = (v % 256) as u8;
     out[at + 2] = (v / 256 % 256) as u8;
     out[at + 3] = (v / 65536 % 256) as u8;
-    out[at + 4] = (v / 16777216) as u8;
+    out[at + 4] = (v / 16777216 % 256) as u8;
 }

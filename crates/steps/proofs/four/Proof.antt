@@ -1,3 +1,6 @@
+-- `steps::four` meets its contract. Assumes nothing.
+use native.Mathlib.Omega.{arith}
+use Rattle.steps.proofs.Numbers.{four-bytes}
 use borrow.Author.Needs.{needs}
 use Rattle.steps.proofs.four.Statement.{statement}
 use Rattle.steps.proofs.four.Tie as tie
@@ -27,11 +30,11 @@ wide-requires-2 c κs = search needs
 
 -- src/lib.rt:37:22
 mul-result : tie.Need-mul-result
-mul-result c = ?
+mul-result c = search needs
 
 -- src/lib.rt:37:5
 add-result : tie.Need-add-result
-add-result c = ?
+add-result c = search needs
 
 -- src/lib.rt:37:67
 add-wide-2 : tie.Need-add-wide-2
@@ -47,11 +50,11 @@ wide-requires-3 c κs = search needs
 
 -- src/lib.rt:37:49
 mul-result-2 : tie.Need-mul-result-2
-mul-result-2 c = ?
+mul-result-2 c = search needs
 
 -- src/lib.rt:37:5
 add-result-2 : tie.Need-add-result-2
-add-result-2 c = ?
+add-result-2 c = search needs
 
 -- src/lib.rt:37:99
 add-wide-3 : tie.Need-add-wide-3
@@ -67,15 +70,15 @@ wide-requires-4 c κs = search needs
 
 -- src/lib.rt:37:78
 mul-result-3 : tie.Need-mul-result-3
-mul-result-3 c = ?
+mul-result-3 c = search needs
 
 -- src/lib.rt:37:5
 add-result-3 : tie.Need-add-result-3
-add-result-3 c = ?
+add-result-3 c = search needs
 
 -- src/lib.rt:33:1
 returns : tie.Need-returns
-returns c = ?
+returns c = four-bytes _ (c .before .before .before .before .before .before .before .before .before .args .at) (omega arith) (c .before .before .before .before .before .before .wide .ensures .0) (c .before .before .before .before .wide2 .ensures .0) (c .before .before .wide3 .ensures .0) (c .wide4 .ensures .0)
 
 pub four-spec : {M : Type 1} → statement M
 four-spec =

@@ -1,3 +1,7 @@
+-- `steps::put_answer` meets its contract: the five stores are the answer's bytes. Assumes nothing.
+use native.Mathlib.Omega.{arith}
+use lib.ListN.{length-set}
+use Rattle.steps.proofs.Puts.{five}
 use borrow.Author.Needs.{needs}
 use Rattle.steps.proofs.put_answer.Statement.{statement}
 use Rattle.steps.proofs.put_answer.Tie as tie
@@ -22,7 +26,7 @@ add-out c = search needs
 
 -- src/lib.rt:118:5
 slice-write-out-2 : tie.Need-slice-write-out-2
-slice-write-out-2 c = ?
+slice-write-out-2 c = simp length-set (omega arith)
 
 -- src/lib.rt:119:19
 cast-out-3 : tie.Need-cast-out-3
@@ -34,7 +38,7 @@ add-out-2 c = search needs
 
 -- src/lib.rt:119:5
 slice-write-out-3 : tie.Need-slice-write-out-3
-slice-write-out-3 c = ?
+slice-write-out-3 c = simp length-set (omega arith)
 
 -- src/lib.rt:120:19
 cast-out-4 : tie.Need-cast-out-4
@@ -46,7 +50,7 @@ add-out-3 c = search needs
 
 -- src/lib.rt:120:5
 slice-write-out-4 : tie.Need-slice-write-out-4
-slice-write-out-4 c = ?
+slice-write-out-4 c = simp length-set (omega arith)
 
 -- src/lib.rt:121:19
 cast-out-5 : tie.Need-cast-out-5
@@ -58,7 +62,7 @@ add-out-4 c = search needs
 
 -- src/lib.rt:121:5
 slice-write-out-5 : tie.Need-slice-write-out-5
-slice-write-out-5 c = ?
+slice-write-out-5 c = simp length-set (omega arith)
 
 -- src/lib.rt:112:1
 same-length : tie.Need-same-length
@@ -66,7 +70,7 @@ same-length c = search needs
 
 -- src/lib.rt:112:1
 returns : tie.Need-returns
-returns c = ?
+returns c = five _ (c .before .args .at) (c .before .args .g) (omega arith)
 
 pub put-answer-spec : {M : Type 1} → statement M
 put-answer-spec =

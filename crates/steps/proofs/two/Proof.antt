@@ -1,3 +1,6 @@
+-- `steps::two` meets its contract. Assumes nothing.
+use native.Mathlib.Omega.{arith}
+use Rattle.steps.proofs.Numbers.{two-bytes}
 use borrow.Author.Needs.{needs}
 use Rattle.steps.proofs.two.Statement.{statement}
 use Rattle.steps.proofs.two.Tie as tie
@@ -27,15 +30,15 @@ wide-requires-2 c κs = search needs
 
 -- src/lib.rt:29:22
 mul-result : tie.Need-mul-result
-mul-result c = ?
+mul-result c = search needs
 
 -- src/lib.rt:29:5
 add-result : tie.Need-add-result
-add-result c = ?
+add-result c = search needs
 
 -- src/lib.rt:25:1
 returns : tie.Need-returns
-returns c = ?
+returns c = two-bytes _ (c .before .before .before .before .before .args .at) (omega arith) (c .before .before .wide .ensures .0) (c .wide2 .ensures .0)
 
 pub two-spec : {M : Type 1} → statement M
 two-spec =
