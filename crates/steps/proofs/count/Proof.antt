@@ -1,11 +1,9 @@
 -- `steps::count` meets its contract: so far it has counted the answers before an offset. What is left of the file falls. Assumes nothing.
 use Prim.Native.Nat.{_-_}
-use mathlib.Core.Path.{_∙_, ap, sym}
+use mathlib.Core.Path.{_∙_, sym}
 use native.Mathlib.Omega.{arith}
-use lib.ListN.{length, length-drop}
+use lib.ListN.{length}
 use borrow.Author.Needs.{needs}
-use Rattle.steps.specs.Decoding.{whole}
-use Rattle.steps.proofs.Unfold.{part-on}
 use Rattle.steps.proofs.Counts.{Counting, count-bad, count-done, count-next, count-start}
 use Rattle.steps.proofs.count.Statement.{statement}
 use Rattle.steps.proofs.count.Tie as tie
@@ -45,11 +43,11 @@ add-result c = search needs
 
 -- src/lib.rt:103:13
 returns : tie.Need-returns Inv-loop μ-loop
-returns c = count-bad (c .before .before .before .before .loop .inv) (c .before .before .before .loop-test .taken) (sym (c .before .step-length .ensures ∙ ap whole (part-on _ (c .before .before .before .before .loop .at))) ∙ c .if1 .taken)
+returns c = count-bad (c .before .before .before .before .loop .inv) (c .before .before .before .loop-test .taken) (sym (c .before .step-length .ensures) ∙ c .if1 .taken)
 
 -- src/lib.rt:100:5
 loop-again : tie.Need-loop-again Inv-loop μ-loop
-loop-again c = count-next (c .before .before .before .before .loop .inv) (c .before .step-length .result) (c .before .step-length .ensures ∙ ap whole (part-on _ (c .before .before .before .before .loop .at))) (omega arith)
+loop-again c = count-next (c .before .before .before .before .loop .inv) (c .before .step-length .result) (c .before .step-length .ensures) (omega arith)
 
 -- src/lib.rt:105:9
 add-at : tie.Need-add-at Inv-loop μ-loop
