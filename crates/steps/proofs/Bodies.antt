@@ -25,13 +25,21 @@ by-kind P a b c d e f g (suc (suc (suc (suc (suc zero))))) l = f
 by-kind P a b c d e f g (suc (suc (suc (suc (suc (suc zero)))))) l = g
 by-kind P a b c d e f g (suc (suc (suc (suc (suc (suc (suc k))))))) l = absurd (omega arith)
 
-pub known-length : (k : ℕ) → k ≤ 6 → 0 < lengthOf k
+known-length : (k : ℕ) → k ≤ 6 → 0 < lengthOf k
 unfolding lengthOf
 known-length = by-kind (λ k. 0 < lengthOf k) (omega arith) (omega arith) (omega arith) (omega arith) (omega arith) (omega arith) (omega arith)
 
 pub unknown-length : (k : ℕ) → 6 < k → lengthOf k ≡ 0
 unfolding lengthOf
 unknown-length k l = List·getD-eq-default (3 ∷ 1 ∷ 5 ∷ 9 ∷ 3 ∷ 3 ∷ 3 ∷ []) 0 {n = k} (omega arith)
+
+-- a kind is known and has a length, or is above 6 and has none
+pub kind-cases : (k : ℕ) → ((k ≤ 6) × (0 < lengthOf k)) ⊎ ((6 < k) × (lengthOf k ≡ 0))
+kind-cases k = go (leb k 6) refl
+  where
+    go : (b : Bool) → leb k 6 ≡ b → ((k ≤ 6) × (0 < lengthOf k)) ⊎ ((6 < k) × (lengthOf k ≡ 0))
+    go true e = let l = leb-true k 6 e in inl (l, known-length k l)
+    go false e = let l = leb-false k 6 e in inr (l, unknown-length k l)
 
 -- the kinds but 0 to 3 are three bytes long
 pub three : (k : ℕ) → 3 < k → k ≤ 6 → 3 ≡ lengthOf k
@@ -79,11 +87,7 @@ module _ (p : List ℕ) where
 
   -- above 5 there is one kind
   pub last-kind : 0 < whole p → 5 < kindOf p → kindOf p ≡ 6
-  last-kind h l = go (leb (kindOf p) 6) refl
-    where
-      go : (b : Bool) → leb (kindOf p) 6 ≡ b → kindOf p ≡ 6
-      go true e = omega (arith, leb-true (kindOf p) 6 e, l)
-      go false e = absurd (omega (arith, unknown-length (kindOf p) (leb-false (kindOf p) 6 e), whole-is h .0, h))
+  last-kind h l = elim (kind-cases (kindOf p)) [ inl (k, n) ↦ omega (arith, k, l) | inr (k, n) ↦ absurd (omega (arith, n, whole-is h .0, h)) ]
 
   pub step-is : {k : ℕ} {s : Step} → kindOf p ≡ k → s ≡ stepOf k p → s ≡ stepOf (kindOf p) p
   step-is e h = h ∙ ap (λ (k : ℕ). stepOf k p) (sym e)
@@ -125,14 +129,9 @@ module _ (p : List ℕ) where
 
 pub bad-rest : (p : List ℕ) → 0 < length p → decoded p ≡ Bad → BadRest p
 bad-rest [] l e = absurd (omega arith)
-bad-rest (k ∷ q) l e = (l, elim (whole-cases (k ∷ q)) [ inl (w, f) ↦ inl (unknown (sym w ∙ bad-is (k ∷ q) e)) | inr (w, f) ↦ inr f ])
-  where
-    unknown : lengthOf k ≡ 0 → 6 < k
-    unknown z = go (leb k 6) refl
-      where
-        go : (b : Bool) → leb k 6 ≡ b → 6 < k
-        go true t = absurd (omega (arith, known-length k (leb-true k 6 t), z))
-        go false t = leb-false k 6 t
+bad-rest (k ∷ q) l e =
+    let w = bad-is (k ∷ q) e in
+    (l, elim (whole-cases (k ∷ q)) [ inr (u, c) ↦ inr c | inl (u, c) ↦ elim (kind-cases k) [ inr (a, n) ↦ inl a | inl (a, n) ↦ absurd (omega (arith, n, u, w)) ] ])
 
 pub rest-bad : (p : List ℕ) → BadRest p → decoded p ≡ Bad
 rest-bad [] (l, c) = absurd (omega arith)

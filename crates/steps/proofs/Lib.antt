@@ -3,4 +3,5 @@ pub mod Bodies
 pub mod Unfold
 pub mod Counts
 pub mod Spelling
+pub mod Files
 pub mod Puts
