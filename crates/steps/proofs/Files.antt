@@ -13,7 +13,7 @@ use Rattle.laws.proofs.Lists.{and-both, and-left, and-right}
 use Rattle.steps.specs.declared.Decoded.{Decoded}
 use Rattle.steps.specs.declared.Decoded.the-variants.{Bad, Good}
 use Rattle.steps.specs.Format.{byte, bytesOf, bytesOfAll, writable}
-use Rattle.steps.specs.Decoding.{BadAt, Contents, Done, End, andThen, contents, contentsFrom, decoded}
+use Rattle.steps.specs.Decoding.{BadAt, Contents, End, andThen, contents, contentsFrom, decoded}
 use Rattle.steps.specs.Spelling.{Ending, Spells, bad, nothing}
 use Rattle.steps.proofs.Numbers.{byte-drop}
 use Rattle.steps.proofs.Bodies.{bad-rest, good-length, rest-bad}
@@ -75,7 +75,7 @@ steps-read (s ∷ ss) {e} at {p} r =
     let good = ap decoded split ∙ bytes-decoded s q (and-left _ _ (r .fits)) in
     let past : at + length (bytesOf s ++ bytesOfAll ss) ≡ at + n + length (bytesOfAll ss) = omega (arith, length-append (bytesOf s) (bytesOfAll ss)) in
     let more : Spells (at + n) q (contents ss e) =
-          record { rest = r .rest; same = refl; fits = and-right (writable s) _ (r .fits); ending = subst (λ (m : ℕ). Ending m (r .rest) e) past (r .ending) } in
+    record { rest = r .rest; same = refl; fits = and-right (writable s) _ (r .fits); ending = subst (λ (m : ℕ). Ending m (r .rest) e) past (r .ending) } in
     contents-good at p good
     ∙ ap (λ (l : List ℕ). andThen s (contentsFrom (at + n) 0 l)) (ap (drop n) split ∙ drop-append-seam (bytesOf s) q)
     ∙ ap (andThen s) (steps-read ss (at + n) more)

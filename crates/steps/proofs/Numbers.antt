@@ -95,5 +95,5 @@ module _ (p : List ℕ) where
   four-bytes at l e f g h =
       let three : at + 2 + 1 ≡ at + 3 = omega arith in
       let two : field (at + 2) 2 p ≡ getD p (at + 2) 0 + 256 * (getD p (at + 3) 0 + 256 * 0) =
-            field-two (at + 2) 0 (omega arith) ∙ (λ j. getD p (at + 2) 0 + 256 * (getD p (three j) 0 + 256 * field-none (at + 2 + 2) j)) in
+      field-two (at + 2) 0 (omega arith) ∙ (λ j. getD p (at + 2) 0 + 256 * (getD p (three j) 0 + 256 * field-none (at + 2 + 2) j)) in
       omega (arith, e, f, g, h, field-two at 2 (omega arith), two)

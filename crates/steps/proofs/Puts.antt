@@ -3,8 +3,8 @@ use Prim.Native.Nat.{ℕ, suc, _+_, _*_, _/_, _%_, _<_, _≤_}
 use native.Mathlib.Nat.{div-div-eq-div-mul}
 use native.Mathlib.Omega.{arith}
 use mathlib.Core.List.{List, [], _∷_, _++_, append-assoc, append-nil}
-use mathlib.Core.Path.{_≡_, _∙_, ap, ap₂, refl, sym}
-use lib.ListN.{drop, length, length-append, length-drop, set, take}
+use mathlib.Core.Path.{_≡_, _∙_, ap, refl, sym}
+use lib.ListN.{drop, length, length-append, length-drop, set}
 use lib.Seq.{drop-at, drop-drop, sets-eq, take-at}
 use Rattle.terms.specs.declared.Given.{Given}
 use Rattle.steps.specs.Format.{le}
@@ -15,7 +15,7 @@ use Rattle.steps.proofs.Numbers.{length-le, number-le}
 -- five stores
 pub five : (out : List ℕ) (at : ℕ) (g : Given) → at + 5 ≤ length out
     → set (set (set (set (set out at (g .number)) (at + 1) (g .value % 256)) (at + 2) (g .value / 256 % 256)) (at + 3) (g .value / 65536 % 256)) (at + 4) (g .value / 16777216 % 256)
-      ≡ answerAt at g out
+    ≡ answerAt at g out
 unfolding answerAt answerBytes le
 five out at g l =
     let v = g .value in

@@ -1,29 +1,22 @@
 -- A step and its bytes: the bytes of a step are decoded as that step, and a step is decoded only from its bytes. Assumes nothing.
-use Prim.Native.Nat.{ℕ, zero, suc, _+_, _<_, _≤_, _^_}
-use native.Mathlib.Nat.{add-zero}
+use Prim.Native.Nat.{ℕ, _<_, _≤_}
 use native.Mathlib.Omega.{arith}
-use mathlib.Core.Bool.{_&&_, and-eq-true-iff, false, true}
+use mathlib.Core.Bool.{and-eq-true-iff, true}
 use mathlib.Core.List.{List, [], _∷_, _++_, append-assoc}
 use mathlib.Core.Logic.{inl, inr}
-use mathlib.Core.Path.{_≡_, _∙_, ap, ap₂, refl, sym}
-use lib.ListN.{drop, length, length-append, length-drop}
-use lib.Seq.{drop-append-seam}
+use mathlib.Core.Path.{_≡_, _∙_, ap, refl, sym}
+use lib.ListN.{drop, length}
 use lib.Dec.{ltb}
 use borrow.Author.Tests.{lt-ltb, ltb-true}
-use Rattle.terms.specs.declared.ItemNo.{ItemNo}
 use Rattle.terms.specs.declared.Step.{Step}
 use Rattle.terms.specs.declared.Step.the-variants.{Abort, Begin, Commit, Latest, Open, Read, Write}
-use Rattle.terms.specs.declared.TxnNo.{TxnNo}
 use Rattle.rules.specs.Lists.{all}
-use Rattle.laws.proofs.Lists.{and-both, and-left, and-right}
-use Rattle.steps.specs.declared.Decoded.{Decoded}
-use Rattle.steps.specs.declared.Decoded.the-variants.{Bad, Good}
-use Rattle.steps.specs.Format.{byte, bytesOf, bytesOfAll, le, short, writable}
-use Rattle.steps.specs.Decoding.{BadAt, Contents, Done, End, andThen, contents, contentsFrom, decoded, field, kindOf, lengthOf, number, stepOf, stepsOf, whole}
-use Rattle.steps.specs.Spelling.{Ending, Spells, bad, nothing}
-use Rattle.steps.proofs.Numbers.{byte-drop, field-back, field-small, length-le, number-le}
+use Rattle.laws.proofs.Lists.{and-both, and-right}
+use Rattle.steps.specs.declared.Decoded.the-variants.{Good}
+use Rattle.steps.specs.Format.{byte, bytesOf, le, short, writable}
+use Rattle.steps.specs.Decoding.{decoded, field, kindOf, lengthOf, number, stepOf}
+use Rattle.steps.proofs.Numbers.{field-back, field-small, number-le}
 use Rattle.steps.proofs.Bodies.{by-kind, decoded-good, good-is, good-length, kind-cases, whole-fits, whole-is}
-use Rattle.steps.proofs.Unfold.{contents-bad, contents-done, contents-good}
 
 -- ---- one step: its bytes are read back
 
@@ -117,8 +110,7 @@ decoded-there (k ∷ q) {s} {n} h e =
     let w = whole-is (k ∷ q) (v .2) in
     let m : n ≡ lengthOf k = v .1 ∙ w .0 in
     let known : k ≤ 6 = elim (kind-cases k) [ inl (a, l) ↦ a | inr (a, l) ↦ absurd (omega (arith, l, w .0, v .2)) ] in
-    let t = there q (and-right (byte k) _ h) k known (w .1) in
-    (
+    let t = there q (and-right (byte k) _ h) k known (w .1) in (
       t .same ∙ (λ j. bytesOf (sym (v .0) j) ++ drop (sym m j) (k ∷ q)),
       ap writable (v .0) ∙ t .fits,
       ap (λ (x : Step). length (bytesOf x)) (v .0) ∙ t .long ∙ sym m,

@@ -9,7 +9,7 @@ use lib.Seq.{drop-drop, take-all}
 use Rattle.terms.specs.declared.Step.{Step}
 use Rattle.steps.specs.declared.Decoded.{Decoded}
 use Rattle.steps.specs.declared.Decoded.the-variants.{Bad, Good}
-use Rattle.steps.specs.Decoding.{BadAt, Contents, Done, andThen, contents, contentsFrom, decoded, onward}
+use Rattle.steps.specs.Decoding.{BadAt, Done, andThen, contents, contentsFrom, decoded, onward}
 use Rattle.steps.proofs.Bodies.{good-length}
 
 -- passing over some bytes is to start behind them

@@ -3,8 +3,6 @@ use Prim.Native.Nat.{ℕ, zero, suc, _/_, _%_}
 use mathlib.Core.Bool.{Bool, true, _&&_}
 use mathlib.Core.List.{List, [], _∷_, _++_}
 use lib.Dec.{ltb}
-use Rattle.terms.specs.declared.TxnNo.{TxnNo}
-use Rattle.terms.specs.declared.ItemNo.{ItemNo}
 use Rattle.terms.specs.declared.Step.{Step}
 use Rattle.terms.specs.declared.Step.the-variants.{Open, Begin, Read, Write, Commit, Abort, Latest}
 

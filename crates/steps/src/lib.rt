@@ -34,7 +34,10 @@ fn four(part: &[u8], at: usize) -> u32
     requires { ⌜ at + 4 ≤ length (now part) ⌝ }
     ensures { λ r. ⌜ r ≡ field at 4 (now (part .entry)) ⌝ }
 {
-    wide(part[at]) + 256 * wide(part[at + 1]) + 65536 * wide(part[at + 2]) + 16777216 * wide(part[at + 3])
+    wide(part[at])
+        + 256 * wide(part[at + 1])
+        + 65536 * wide(part[at + 2])
+        + 16777216 * wide(part[at + 3])
 }
 
 // How long a step of a kind is; 0 for an unknown kind.

@@ -6,34 +6,26 @@ use Rattle.steps.specs.Decoding.{lengthOf}
 use Rattle.steps.proofs.Bodies.{three, unknown-length}
 use Rattle.steps.proofs.length_of.Statement.{statement}
 use Rattle.steps.proofs.length_of.Tie as tie
-use Rattle.steps.proofs.length_of.Reads as reads
-use Rattle.steps.proofs.length_of.Lts as lts
 
--- src/lib.rt:41:1
 returns : tie.Need-returns
 unfolding lengthOf
 returns c = search needs
 
--- src/lib.rt:41:1
 returns-2 : tie.Need-returns-2
 unfolding lengthOf
 returns-2 c = search needs
 
--- src/lib.rt:41:1
 returns-3 : tie.Need-returns-3
 unfolding lengthOf
 returns-3 c = search needs
 
--- src/lib.rt:41:1
 returns-4 : tie.Need-returns-4
 returns-4 c = sym (unknown-length (c .before .before .args .kind) (omega arith))
 
--- src/lib.rt:41:1
 returns-5 : tie.Need-returns-5
 unfolding lengthOf
 returns-5 c = search needs
 
--- src/lib.rt:41:1
 returns-6 : tie.Need-returns-6
 returns-6 c = three (c .before .before .args .kind) (omega (arith, c .before .match .rest)) (omega arith)
 
