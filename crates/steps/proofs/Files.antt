@@ -14,7 +14,7 @@ use Rattle.steps.specs.declared.Decoded.{Decoded}
 use Rattle.steps.specs.declared.Decoded.the-variants.{Bad, Good}
 use Rattle.steps.specs.Format.{byte, bytesOf, bytesOfAll, writable}
 use Rattle.steps.specs.Decoding.{BadAt, Contents, End, andThen, contents, contentsFrom, decoded}
-use Rattle.steps.specs.Spelling.{Ending, Spells, bad, nothing}
+use Rattle.steps.specs.Spelling.{BadRest, Ending, Spells, bad, nothing}
 use Rattle.steps.proofs.Numbers.{byte-drop}
 use Rattle.steps.proofs.Bodies.{bad-rest, good-length, rest-bad}
 use Rattle.steps.proofs.Spelling.{bytes-decoded, decoded-there}
@@ -82,3 +82,12 @@ steps-read (s ∷ ss) {e} at {p} r =
 
 pub file-read : (at : ℕ) (p : List ℕ) (h : Contents) → Spells at p h → contentsFrom at 0 p ≡ h
 file-read at p h r = steps-read (h .steps) at r
+
+-- ---- a bad rest starts with no step
+
+pub bad-no-step : (p : List ℕ) → BadRest p → (s : Step) (q : List ℕ) → writable s ≡ true → p ≡ bytesOf s ++ q → ⊥
+bad-no-step p b s q w e =
+    let good = ap decoded e ∙ bytes-decoded s q w in
+    let none = rest-bad p b in
+    let z : _≡_ {A = ℕ} 0 1 = cc in
+    omega arith

@@ -1,4 +1,4 @@
--- What a file holds from an offset on, one step at a time, and how many answers it gives: what a run cites at each turn. Assumes nothing.
+-- What a file holds from an offset on, one step at a time: what a run cites at each turn. Assumes nothing.
 use Prim.Native.Nat.{ℕ, zero, suc, _+_, _-_, _<_, _≤_}
 use native.Mathlib.Nat.{add-zero}
 use native.Mathlib.Omega.{arith}

@@ -26,7 +26,9 @@ fn two(part: &[u8], at: usize) -> u32
     requires { ⌜ at + 2 ≤ length (now part) ⌝ }
     ensures { λ r. ⌜ r ≡ field at 2 (now (part .entry)) ⌝ }
 {
-    wide(part[at]) + 256 * wide(part[at + 1])
+    let low = part[at];
+    let high = part[at + 1];
+    wide(low) + 256 * wide(high)
 }
 
 // The number in four bytes.
