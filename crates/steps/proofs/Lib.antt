@@ -1,0 +1,7 @@
+pub mod Numbers
+pub mod Bodies
+pub mod Unfold
+pub mod Counts
+pub mod Spelling
+pub mod Files
+pub mod Puts
