@@ -5,22 +5,6 @@ use Rattle.edges.proofs.Draws.{drawn}
 use borrow.Author.Needs.{needs}
 use Rattle.edges.proofs.draw.Statement.{statement}
 use Rattle.edges.proofs.draw.Tie as tie
-use Rattle.edges.proofs.draw.Reads as reads
-use Rattle.edges.proofs.draw.Lts as lts
-use Rattle.edges.proofs.link.Reads as link-reads
-use Rattle.graph.proofs.without.Reads as without-reads
-
-without-requires : tie.Need-without-requires
-without-requires c κs = search needs
-
-mul-g : tie.Need-mul-g
-mul-g c = search needs
-
-slice-write-g : tie.Need-slice-write-g
-slice-write-g c = search needs
-
-link-requires : tie.Need-link-requires
-link-requires c κs = search needs
 
 same-length : tie.Need-same-length
 same-length c = let p = c .before .before .before .before .before .before .args in c .before .before .link .ensures .len ∙ length-set (p .g .now) (p .i) (c .before .before .before .before .without .result)
@@ -30,4 +14,4 @@ returns c = let p = c .before .before .before .before .before .before .args in d
 
 pub draw-spec : {M : Type 1} → statement M
 draw-spec =
-    tie.close (tie.spec without-requires mul-g slice-write-g link-requires same-length returns)
+    tie.close (tie.spec (λ c κs. search needs) (λ c. search needs) (λ c. search needs) (λ c κs. search needs) same-length returns)

@@ -14,12 +14,6 @@ use Rattle.edges.proofs.Drawing.{Drawing, draw-none, draw-skip, draw-ne
 use Rattle.edges.proofs.Telling.{edges-told}
 use Rattle.edges.proofs.edges.Statement.{statement}
 use Rattle.edges.proofs.edges.Tie as tie
-use Rattle.edges.proofs.edges.Reads as reads
-use Rattle.edges.proofs.edges.Lts as lts
-use Rattle.edges.proofs.count.Reads as count-reads
-use Rattle.edges.proofs.draw.Reads as draw-reads
-use Rattle.edges.proofs.meet.Reads as meet-reads
-use Rattle.edges.proofs.past.Reads as past-reads
 
 abbrev Inv-loop : tie.InvT-loop
 Inv-loop recs rows tab₀ ends₀ g₀ before₀ k₀ a₀ tab ends g before k a = Drawing 256 32 rows recs tab ends g before k a × Going rows (onwards (λ r. eqb (num r) 0) a) (usedCount rows) a
@@ -30,84 +24,18 @@ abbrev μ-loop : tie.MeasureT-loop
 loop-holds : tie.Need-loop-holds Inv-loop μ-loop
 loop-holds c = (draw-none 256 32 _ _ refl refl refl, first-start (λ r. eqb (num r) 0))
 
-mul-r : tie.Need-mul-r Inv-loop μ-loop
-mul-r c = search needs
-
-array-copy-out-r : tie.Need-array-copy-out-r Inv-loop μ-loop
-array-copy-out-r c = search needs
-
 returns : tie.Need-returns Inv-loop μ-loop
 returns c = let l = c .before .before .before .loop in edges-told 256 32 (omega arith) _ _ (first-here (λ r. eqb (num r) 0) (l .inv .1) zeroRow (search needs) (eq-eqb _ 0 (c .if1 .taken))) (l .inv .0)
 
-add-a : tie.Need-add-a Inv-loop μ-loop
-add-a c = search needs
-
-mul-count : tie.Need-mul-count Inv-loop μ-loop
-mul-count c = search needs
-
-sub-count : tie.Need-sub-count Inv-loop μ-loop
-sub-count c = search needs
-
-part-count-start : tie.Need-part-count-start Inv-loop μ-loop
-part-count-start c = search needs
-
-part-count-end : tie.Need-part-count-end Inv-loop μ-loop
-part-count-end c = search needs
-
-count-requires : tie.Need-count-requires Inv-loop μ-loop
-count-requires c κs = search needs
-
 add-k : tie.Need-add-k Inv-loop μ-loop
 add-k c = let m = most-next (c .before .before .before .before .before .before .loop .inv .0) refl refl (c .count .ensures) in search needs
-
-loop-less : tie.Need-loop-less Inv-loop μ-loop
-loop-less c = search needs
 
 loop-again : tie.Need-loop-again Inv-loop μ-loop
 loop-again c = let l = c .before .before .before .before .before .before .loop in
     (draw-skip (l .inv .0) refl refl (c .count .ensures) (ap not (eq-eqb _ 0 (c .before .before .if2 .taken))), first-next (λ r. eqb (num r) 0) (l .inv .1) zeroRow (search needs) (ne-eqb _ 0 (c .before .before .before .if1 .left)))
 
-mul-ends : tie.Need-mul-ends Inv-loop μ-loop
-mul-ends c = search needs
-
-array-write-ends : tie.Need-array-write-ends Inv-loop μ-loop
-array-write-ends c = search needs
-
-slice-aggregate-meet : tie.Need-slice-aggregate-meet Inv-loop μ-loop
-slice-aggregate-meet c = search needs
-
-mul-meet : tie.Need-mul-meet Inv-loop μ-loop
-mul-meet c = search needs
-
-sub-meet : tie.Need-sub-meet Inv-loop μ-loop
-sub-meet c = search needs
-
-part-meet-start : tie.Need-part-meet-start Inv-loop μ-loop
-part-meet-start c = search needs
-
-part-meet-end : tie.Need-part-meet-end Inv-loop μ-loop
-part-meet-end c = search needs
-
-meet-requires : tie.Need-meet-requires Inv-loop μ-loop
-meet-requires c κs = search needs
-
 add-k-2 : tie.Need-add-k-2 Inv-loop μ-loop
 add-k-2 c = let m = most-next (c .before .before .before .before .before .before .before .before .before .loop .inv .0) refl refl (c .before .before .meet .ensures .count) in search needs
-
-slice-aggregate-past : tie.Need-slice-aggregate-past Inv-loop μ-loop
-slice-aggregate-past c = search needs
-
-past-requires : tie.Need-past-requires Inv-loop μ-loop
-past-requires c κs = search needs
-
-slice-aggregate-draw : tie.Need-slice-aggregate-draw Inv-loop μ-loop
-slice-aggregate-draw c = search needs
-
-draw-requires : tie.Need-draw-requires Inv-loop μ-loop
-draw-requires c κs = search needs
-
-loop-less-2 : tie.Need-loop-less-2 Inv-loop μ-loop
-loop-less-2 c = search needs
 
 loop-again-2 : tie.Need-loop-again-2 Inv-loop μ-loop
 loop-again-2 c = let l = c .before .before .before .before .before .before .before .before .before .before .before .before .before .before .loop in
@@ -126,31 +54,31 @@ edges-spec =
     Inv-loop
     μ-loop
     loop-holds
-    mul-r
-    array-copy-out-r
+    (λ c. search needs)
+    (λ c. search needs)
     returns
-    add-a
-    mul-count
-    sub-count
-    part-count-start
-    part-count-end
-    count-requires
+    (λ c. search needs)
+    (λ c. search needs)
+    (λ c. search needs)
+    (λ c. search needs)
+    (λ c. search needs)
+    (λ c κs. search needs)
     add-k
-    loop-less
+    (λ c. search needs)
     loop-again
-    mul-ends
-    array-write-ends
-    slice-aggregate-meet
-    mul-meet
-    sub-meet
-    part-meet-start
-    part-meet-end
-    meet-requires
+    (λ c. search needs)
+    (λ c. search needs)
+    (λ c. search needs)
+    (λ c. search needs)
+    (λ c. search needs)
+    (λ c. search needs)
+    (λ c. search needs)
+    (λ c κs. search needs)
     add-k-2
-    slice-aggregate-past
-    past-requires
-    slice-aggregate-draw
-    draw-requires
-    loop-less-2
+    (λ c. search needs)
+    (λ c κs. search needs)
+    (λ c. search needs)
+    (λ c κs. search needs)
+    (λ c. search needs)
     loop-again-2
     returns-2)

@@ -8,11 +8,6 @@ use Prim.Native.Nat.{_<_, _^_}
 use Rattle.edges.proofs.Draws.{Linking, link-start, link-next, link-done, taken-falls}
 use Rattle.edges.proofs.link.Statement.{statement}
 use Rattle.edges.proofs.link.Tie as tie
-use Rattle.edges.proofs.link.Reads as reads
-use Rattle.edges.proofs.link.Lts as lts
-use Rattle.graph.proofs.first.Reads as first-reads
-use Rattle.graph.proofs.with.Reads as with-reads
-use Rattle.graph.proofs.without.Reads as without-reads
 
 abbrev Inv-loop : tie.InvT-loop
 Inv-loop g₀ from i left₀ g left = Linking from i g₀ g left × (left < 2 ^ 32)
@@ -23,23 +18,14 @@ abbrev μ-loop : tie.MeasureT-loop
 loop-holds : tie.Need-loop-holds Inv-loop μ-loop
 loop-holds c = (link-start, search needs)
 
-first-requires : tie.Need-first-requires Inv-loop μ-loop
-first-requires c κs = search needs
-
 with-requires : tie.Need-with-requires Inv-loop μ-loop
 with-requires c κs = let l = c .before .before .loop in member-lt 32 (l .left) (c .first .result) (l .inv .1) (c .first .ensures)
-
-without-requires : tie.Need-without-requires Inv-loop μ-loop
-without-requires c κs = search needs
 
 mul-with : tie.Need-mul-with Inv-loop μ-loop
 mul-with c = let l = c .before .before .before .before .loop in let f = c .before .before .first in let h = member-lt 32 (l .left) (f .result) (l .inv .1) (f .ensures) in search needs
 
 slice-read-with : tie.Need-slice-read-with Inv-loop μ-loop
 slice-read-with c = let l = c .before .before .before .before .before .loop in let f = c .before .before .before .first in omega (arith, member-lt 32 (l .left) (f .result) (l .inv .1) (f .ensures), l .inv .0 .len)
-
-with-requires-2 : tie.Need-with-requires-2 Inv-loop μ-loop
-with-requires-2 c κs = search needs
 
 mul-g : tie.Need-mul-g Inv-loop μ-loop
 mul-g c = let l = c .before .before .before .before .before .before .loop in let f = c .before .before .before .before .first in let h = member-lt 32 (l .left) (f .result) (l .inv .1) (f .ensures) in search needs
@@ -67,12 +53,12 @@ link-spec =
     Inv-loop
     μ-loop
     loop-holds
-    first-requires
+    (λ c κs. search needs)
     with-requires
-    without-requires
+    (λ c κs. search needs)
     mul-with
     slice-read-with
-    with-requires-2
+    (λ c κs. search needs)
     mul-g
     slice-write-g
     loop-less

@@ -4,23 +4,10 @@ use Rattle.edges.proofs.Draws.{without-one}
 use borrow.Author.Needs.{needs}
 use Rattle.edges.proofs.met.Statement.{statement}
 use Rattle.edges.proofs.met.Tie as tie
-use Rattle.edges.proofs.met.Reads as reads
-use Rattle.edges.proofs.met.Lts as lts
-use Rattle.graph.proofs.with.Reads as with-reads
-use Rattle.graph.proofs.without.Reads as without-reads
-
-with-requires : tie.Need-with-requires
-with-requires c κs = search needs
-
-without-requires : tie.Need-without-requires
-without-requires c κs = search needs
-
-without-requires-2 : tie.Need-without-requires-2
-without-requires-2 c κs = search needs
 
 returns : tie.Need-returns
 returns c = let a = c .before .before .before .args in let o = c .before .before .with in
     (refl, without-one 32 (a .touched) (a .at) (o .result) (search needs) (search needs) (o .ensures) (c .before .without .ensures), without-one 32 (a .by) (a .at) (o .result) (search needs) (search needs) (o .ensures) (c .without2 .ensures))
 
 pub met-spec : {M : Type 1} → statement M
-met-spec = tie.close (tie.spec with-requires without-requires without-requires-2 returns)
+met-spec = tie.close (tie.spec (λ c κs. search needs) (λ c κs. search needs) (λ c κs. search needs) returns)

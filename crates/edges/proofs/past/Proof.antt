@@ -9,11 +9,6 @@ use lib.ListN.{getD}
 use Rattle.edges.proofs.Draws.{Passing, pass-start, pass-next, pass-more, pass-done, taken-falls}
 use Rattle.edges.proofs.past.Statement.{statement}
 use Rattle.edges.proofs.past.Tie as tie
-use Rattle.edges.proofs.past.Reads as reads
-use Rattle.edges.proofs.past.Lts as lts
-use Rattle.graph.proofs.first.Reads as first-reads
-use Rattle.graph.proofs.with.Reads as with-reads
-use Rattle.graph.proofs.without.Reads as without-reads
 
 abbrev Inv-loop : tie.InvT-loop
 Inv-loop ends touched before m all₀ left₀ all left = Passing (λ j. ltb (getD ends j 0) m) touched before all left × (left < 2 ^ 32)
@@ -21,20 +16,11 @@ Inv-loop ends touched before m all₀ left₀ all left = Passing (λ j. ltb (get
 abbrev μ-loop : tie.MeasureT-loop
 μ-loop ends touched before m all₀ left₀ all left = left
 
-without-requires : tie.Need-without-requires Inv-loop μ-loop
-without-requires c κs = search needs
-
 loop-holds : tie.Need-loop-holds Inv-loop μ-loop
 loop-holds c = let a = c .before .before .args in (pass-start 32 _ (a .touched) (a .before) (search needs) (search needs) (c .without .ensures), search needs)
 
-first-requires : tie.Need-first-requires Inv-loop μ-loop
-first-requires c κs = search needs
-
 with-requires : tie.Need-with-requires Inv-loop μ-loop
 with-requires c κs = let l = c .before .before .loop in member-lt 32 (l .left) (c .first .result) (l .inv .1) (c .first .ensures)
-
-without-requires-2 : tie.Need-without-requires-2 Inv-loop μ-loop
-without-requires-2 c κs = search needs
 
 mul-if1 : tie.Need-mul-if1 Inv-loop μ-loop
 mul-if1 c = let l = c .before .before .before .before .loop in let f = c .before .before .first in let h = member-lt 32 (l .left) (f .result) (l .inv .1) (f .ensures) in search needs
@@ -68,11 +54,11 @@ past-spec =
     (tie.spec
     Inv-loop
     μ-loop
-    without-requires
+    (λ c κs. search needs)
     loop-holds
-    first-requires
+    (λ c κs. search needs)
     with-requires
-    without-requires-2
+    (λ c κs. search needs)
     mul-if1
     shared-slice-read-if1
     with-requires-2

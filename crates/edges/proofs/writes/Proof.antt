@@ -2,8 +2,6 @@
 use mathlib.Core.Path.{refl}
 use Rattle.edges.proofs.writes.Statement.{statement}
 use Rattle.edges.proofs.writes.Tie as tie
-use Rattle.edges.proofs.writes.Reads as reads
-use Rattle.edges.proofs.writes.Lts as lts
 
 returns : tie.Need-returns
 returns c = λ x e. rw e refl
