@@ -24,7 +24,7 @@ use Rattle.edges.specs.Told.{Holds}
 use Rattle.edges.proofs.Places.{any-map, any-agree, any-either}
 use Rattle.edges.proofs.Blocked.{own, block-is}
 
--- ---- a mark in the index
+-- ---- a mark in the index: a packed item is below 256
 module _ (w : ℕ) (wide : 256 ≤ w) where
   module _ (i p : ℕ) where
     same : eqb (w + item (unpack p)) (w + i) ≡ eqb (item (unpack p)) i
@@ -40,7 +40,7 @@ module _ (w : ℕ) (wide : 256 ≤ w) where
         go true = same
         go false = low
 
-    hits-either : i < 256 → (hits w i p || hits w (w + i) p) ≡ eqb (item (unpack p)) i
+    hits-either : i < w → (hits w i p || hits w (w + i) p) ≡ eqb (item (unpack p)) i
     hits-either l = go (isWrite (unpack p))
       where
         go : (b : Bool) → (eqb (cond b (w + item (unpack p)) (item (unpack p))) i || eqb (cond b (w + item (unpack p)) (item (unpack p))) (w + i)) ≡ eqb (item (unpack p)) i
@@ -105,7 +105,7 @@ module _ (w : ℕ) (wide : 256 ≤ w) (rs : List Row) (ps : List ℕ) (s : State
           (λ z. over (hits w (item (unpack p))) j lj z || over (hits w (w + item (unpack p))) j lj z)
           ∙ any-either (λ q. own (N j) q && hits w (item (unpack p)) q) (λ q. own (N j) q && hits w (w + item (unpack p)) q) us
           ∙ any-agree _ _ us (λ q m. both (own (N j) q) (hits w (item (unpack p)) q) (hits w (w + item (unpack p)) q)
-          ∙ ap (λ (b : Bool). own (N j) q && b) (hits-either w wide (item (unpack p)) q (unpack-packs p .item-fits)))
+          ∙ ap (λ (b : Bool). own (N j) q && b) (hits-either w wide (item (unpack p)) q (omega (arith, unpack-packs p .item-fits))))
         where
           both : (o a b : Bool) → ((o && a) || (o && b)) ≡ (o && (a || b))
           both true a b = refl

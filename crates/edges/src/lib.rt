@@ -20,6 +20,9 @@ use terms::Row;
 // As many items as a record can name.
 pub const ITEMS: usize = 256;
 
+// Two sets of rows for each: those that read it, and those that wrote it.
+const SETS: usize = ITEMS + ITEMS;
+
 // The upper half of a packed record: transaction, item and kind.
 fn upper(x: u64) -> u32
     ensures { λ r. ⌜ r ≡ x / 2 ^ 32 ⌝ }
@@ -173,7 +176,7 @@ fn draw(g: &mut [Set], touched: Set, by: Set, before: Set, i: usize)
 pub fn edges(rows: [Row; ROWS], recs: &[u64]) -> [Set; ROWS]
     ensures { λ g. do ⌜ EdgesTold (← ⟦ROWS⟧ .entry) rows (now (recs .entry)) g ⌝ }
 {
-    let mut tab = [0; 512];
+    let mut tab = [0; SETS];
     let mut ends = [0; ROWS];
     let mut g = [0; ROWS];
     let mut before = 0;

@@ -25,10 +25,20 @@ returns : tie.Need-returns Inv-loop μ-loop
 returns c = meet-stop (c .before .before .before .before .before .before .loop .inv) (search needs) (ap not (ne-eqb _ _ (λ e. c .before .if1 .taken (c .before .before .txn-in .ensures _ (c .before .before .before .upper .ensures) ∙ e)))) (c .met .result .touched) (c .met .result .by) (c .met .ensures .0) (c .met .ensures .1) (c .met .ensures .2)
 
 loop-again : tie.Need-loop-again Inv-loop μ-loop
-loop-again c = meet-write (c .before .before .before .before .before .before .before .before .before .before .before .before .loop .inv) (search needs) (ap not (eq-eqb _ _ (sym (c .before .before .before .before .before .before .before .before .txn-in .ensures _ (c .before .before .before .before .before .before .before .before .before .upper .ensures)) ∙ c .before .before .before .before .before .before .before .if1 .left))) (c .before .before .before .before .before .before .item-in .ensures .0 _ (c .before .before .before .before .before .before .before .before .before .upper .ensures)) refl (sym (c .before .before .before .before .before .writes .ensures _ (c .before .before .before .before .before .before .before .before .before .upper .ensures)) ∙ c .before .before .before .before .if2 .taken) (search needs) (c .with .ensures)
+loop-again c = let w = c .before .before .before .before .before in
+    let i = w .before in
+    let t = i .before .before in
+    let u = t .before .upper .ensures in
+    meet-write (t .before .before .before .before .loop .inv) (search needs) (ap not (eq-eqb _ _ (sym (t .txn-in .ensures _ u) ∙ i .before .if1 .left))) (i .item-in .ensures .0 _ u) refl
+    (sym (w .writes .ensures _ u) ∙ c .before .before .before .before .if2 .taken) (search needs) (c .with .ensures)
 
 loop-again-2 : tie.Need-loop-again-2 Inv-loop μ-loop
-loop-again-2 c = meet-read (c .before .before .before .before .before .before .before .before .before .before .before .loop .inv) (search needs) (ap not (eq-eqb _ _ (sym (c .before .before .before .before .before .before .before .txn-in .ensures _ (c .before .before .before .before .before .before .before .before .upper .ensures)) ∙ c .before .before .before .before .before .before .if1 .left))) (c .before .before .before .before .before .item-in .ensures .0 _ (c .before .before .before .before .before .before .before .before .upper .ensures)) refl (sym (c .before .before .before .before .writes .ensures _ (c .before .before .before .before .before .before .before .before .upper .ensures)) ∙ c .before .before .before .if2 .left) (search needs) (c .with2 .ensures)
+loop-again-2 c = let w = c .before .before .before .before in
+    let i = w .before in
+    let t = i .before .before in
+    let u = t .before .upper .ensures in
+    meet-read (t .before .before .before .before .loop .inv) (search needs) (ap not (eq-eqb _ _ (sym (t .txn-in .ensures _ u) ∙ i .before .if1 .left))) (i .item-in .ensures .0 _ u) refl
+    (sym (w .writes .ensures _ u) ∙ c .before .before .before .if2 .left) (search needs) (c .with2 .ensures)
 
 same-length-2 : tie.Need-same-length-2 Inv-loop μ-loop
 same-length-2 c = c .before .before .loop .inv .len
