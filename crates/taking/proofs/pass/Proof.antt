@@ -3,7 +3,6 @@ use Prim.Native.Nat.{_≤_, ℕ, _-_}
 use mathlib.Core.Path.{subst, _≡_, refl, _∙_, ap, sym}
 use native.Mathlib.Omega.{arith}
 use Rattle.taking.proofs.Passes.{off-write, off-gone, PassingTo, pass-start, pass-skip, pass-low, pass-put, pass-stop, pass-done}
--- `taking::pass` meets its contract: `PassingTo`. Assumes nothing.
 use borrow.Author.Needs.{needs}
 use lib.ListN.{length, getD}
 use borrow.Author.Tests.{eq-eqb, ne-eqb}
