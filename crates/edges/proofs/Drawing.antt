@@ -1,9 +1,9 @@
 -- Row after row: the index of those before, when they ended, and the edges between them. Assumes nothing.
 use Prim.Native.Nat.{ℕ, suc, _+_, _-_, _≤_, _<_}
-use native.Mathlib.Decide.{ℕ-discrete, decLt}
+use native.Mathlib.Decide.{ℕ-discrete}
 use native.Mathlib.Numerals.{add-one}
 use native.Mathlib.Omega.{arith}
-use mathlib.Core.Bool.{Bool, true, false, not, cond, _&&_, _||_, or-false, and-false, false≢true}
+use mathlib.Core.Bool.{Bool, true, false, not, cond, _&&_, _||_, or-false, and-false, and-true, false≢true}
 use mathlib.Core.List.{List}
 use mathlib.Core.Logic.{_⊎_, inl, inr}
 use mathlib.Core.Path.{_≡_, refl, sym, ap, subst, _∙_}
@@ -179,10 +179,6 @@ module _ {w n : ℕ} {rs : List Row} {ps tab ends g : List ℕ} {before k a : �
           none : (i : ℕ) → has g i a ≡ false
           none i = s .is ρ i a ∙ ap (λ (b : Bool). (ended rs a i && b) && linked w rs ps i a) (placed-not committed rs a) ∙ ap (λ (b : Bool). b && linked w rs ps i a) (and-false (ended rs a i))
 
-          whole : (c : Bool) → (c && true) ≡ c
-          whole true = refl
-          whole false = refl
-
           up : (e t o z l r : Bool) → (e ≡ true → l ≡ true) → (e ≡ true → r ≡ false) → ((e && t) && not o) ≡ (e && ((l && (t && not o)) || (r && z)))
           up true t o z l r hl hr = rw (hl refl, hr refl) (sym (or-false (t && not o)))
           up false t o z l r hl hr = refl
@@ -205,7 +201,7 @@ module _ {w n : ℕ} {rs : List Row} {ps tab ends g : List ℕ} {before k a : �
           go i j (no d) (yes q) =
               subst (λ (u : ℕ). (cond (eqb a i) (member x u && not (member all u)) (has g i u) || (From i && eqb a u)) ≡ ((ended rs (a + 1) i && ended rs (a + 1) u) && linked w rs ps i u)) q
               (rw (eq-eqb a a refl, ne-eqb a i d, self, other i d, none i)
-              (whole (From i) ∙ from-is i
+              (and-true (From i) ∙ from-is i
               ∙ down (ended rs a i) (touchBy w rs ps a i) (touch w rs ps a i) (over rs i a) (touch w rs ps i a && not (over rs a i)) (ltb i a) (ltb a i) (λ h. and-left _ _ h) (λ h. le-ltb a i (omega (arith, first i h)))))
           go i j (no p) (no q) = rw (ne-eqb a i p, ne-eqb a j q, other i p, other j q) (ap (λ (b : Bool). has g i j || b) (and-false (From i)) ∙ or-false (has g i j) ∙ s .is ρ i j)
 

@@ -1,12 +1,12 @@
 -- Loops over the rows of a set: those that ended before a moment, and the edges from each of them. Assumes nothing.
-use Prim.Native.Nat.{ℕ, _+_, _^_, _≤_, _<_}
+use Prim.Native.Nat.{ℕ, _^_, _≤_, _<_}
 use native.Mathlib.Decide.{ℕ-discrete}
 use native.Mathlib.Omega.{arith}
-use mathlib.Core.Bool.{Bool, true, false, not, cond, _&&_, _||_, or-false, false≢true}
+use mathlib.Core.Bool.{Bool, true, false, not, cond, _&&_, _||_, or-assoc, or-false, and-true, false≢true}
 use mathlib.Core.List.{List}
 use mathlib.Core.Path.{_≡_, refl, sym, ap, subst, _∙_}
 use lib.Bits.{bitOr, bitAnd, and-le-l}
-use lib.Dec.{T, eqb, ltb}
+use lib.Dec.{T, eqb}
 use lib.ListN.{length, getD, set, length-set}
 use lib.Seq.{getD-set-same, getD-set-other}
 use borrow.Author.Tests.{eq-eqb, ne-eqb}
@@ -79,12 +79,8 @@ module _ {f : ℕ → Bool} {touched before all left : ℕ} (s : Passing f touch
   pass-more w j o {r} {more} hl ho eo er t e em =
       record {
         is = λ i. ap (λ (b : Bool). b || (member r i && f i)) (ap (λ (m : ℕ). member m i) em ∙ member-with all j i)
-            ∙ moved (member all i) (eqb j i) (member r i && f i) ∙ ap (λ (b : Bool). member all i || b) (sym (left-passes w left j o hl ho eo er t f true e i)) ∙ s .is i;
+            ∙ or-assoc (member all i) (eqb j i) (member r i && f i) ∙ ap (λ (b : Bool). member all i || b) (sym (left-passes w left j o hl ho eo er t f true e i)) ∙ s .is i;
       }
-    where
-      moved : (a b c : Bool) → ((a || b) || c) ≡ (a || (b || c))
-      moved true b c = refl
-      moved false b c = refl
 
   pub pass-done : left ≡ 0 → (j : ℕ) → member all j ≡ (member before j || (member touched j && f j))
   pass-done e j = sym (or-false (member all j)) ∙ ap (λ (b : Bool). member all j || (b && f j)) (sym (ap (λ (m : ℕ). member m j) e ∙ member-zero j)) ∙ s .is j
@@ -105,14 +101,10 @@ module _ {from i : ℕ} {g₀ g : List ℕ} {left : ℕ} (s : Linking from i g�
         len = length-set g b v ∙ s .len;
         is = λ a j. ap (λ (c : Bool). c || (member r a && eqb i j)) (ap (λ (m : ℕ). has (set g b m) a j) ev ∙ has-put g b i a j lb)
             ∙ moved (has g a j) (eqb b a) (eqb i j) (member r a)
-            ∙ ap (λ (c : Bool). has g a j || (c && eqb i j)) (sym (one (member left a) ∙ left-passes w left b o hl ho eo er t (λ x. true) true refl a ∙ ap (λ (c : Bool). eqb b a || c) (sym (one (member r a)))))
+            ∙ ap (λ (c : Bool). has g a j || (c && eqb i j)) (sym (sym (and-true (member left a)) ∙ left-passes w left b o hl ho eo er t (λ x. true) true refl a ∙ ap (λ (c : Bool). eqb b a || c) (and-true (member r a))))
             ∙ s .is a j;
       }
     where
-      one : (c : Bool) → c ≡ (c && true)
-      one true = refl
-      one false = refl
-
       moved : (x e y r : Bool) → ((x || (e && y)) || (r && y)) ≡ (x || ((e || r) && y))
       moved true e y r = refl
       moved false true true r = refl

@@ -2,8 +2,8 @@
 use Prim.Native.Nat.{ℕ, _+_, _^_, _≤_, _<_}
 use native.Mathlib.Decide.{ℕ-discrete}
 use native.Mathlib.Numerals.{add-one}
-use mathlib.Core.Bool.{Bool, true, false, not, cond, _&&_, _||_, or-false, and-false}
-use mathlib.Core.List.{List, [], _∷_}
+use mathlib.Core.Bool.{Bool, true, false, not, cond, _&&_, _||_, or-false, and-comm, and-false, and-true}
+use mathlib.Core.List.{List, []}
 use mathlib.Core.Path.{_≡_, refl, sym, ap, subst, _∙_}
 use lib.Bits.{bitOr}
 use lib.Dec.{eqb}
@@ -36,14 +36,8 @@ Marks w at p tab new = (e j : ℕ) → has new e j ≡ (has tab e j || (eqb at j
 
 marks : (w at p : ℕ) (tab : List ℕ) {i r : ℕ} → i ≡ slot w p → i < length tab → r ≡ bitOr (getD tab i 0) (2 ^ at) → Marks w at p tab (set tab i r)
 marks w at p tab {i} {r} is l q e j =
-    ap (λ (m : ℕ). has (set tab i m) e j) q ∙ has-put tab i at e j l ∙ ap (λ (b : Bool). has tab e j || b) (turned (eqb i e) (eqb at j))
+    ap (λ (m : ℕ). has (set tab i m) e j) q ∙ has-put tab i at e j l ∙ ap (λ (b : Bool). has tab e j || b) (and-comm (eqb i e) (eqb at j))
     ∙ ap (λ (n : ℕ). has tab e j || (eqb at j && eqb n e)) is
-  where
-    turned : (b c : Bool) → (b && c) ≡ (c && b)
-    turned true true = refl
-    turned true false = refl
-    turned false true = refl
-    turned false false = refl
 
 -- ---- the loop over the records of t at the front: k are looked at. Of the rows met so far, `wrote` has those that wrote what a record writes; `read` and
 -- `by` have the others that wrote what one touches, and that touched what one writes
@@ -161,15 +155,11 @@ module _ {w at t : ℕ} {ps tab₀ tab : List ℕ} {read by wrote k : ℕ} (s : 
         → (j : ℕ) → member z j ≡ (not (eqb at j) && f (front t ps) j)
     without a b z f e h g j = h j ∙ go (ℕ-discrete at j)
       where
-        whole : (c : Bool) → (c && true) ≡ c
-        whole true = refl
-        whole false = refl
-
         go : Dec (at ≡ j) → (member (bitOr a b) j && not (eqb at j)) ≡ (not (eqb at j) && f (front t ps) j)
         go (yes q) = rw (eq-eqb at j q) (and-false (member (bitOr a b) j))
         go (no d) =
             rw (ne-eqb at j d)
-            (whole (member (bitOr a b) j) ∙ member-or a b j ∙ sym (or-false (member a j || member b j))
+            (and-true (member (bitOr a b) j) ∙ member-or a b j ∙ sym (or-false (member a j || member b j))
             ∙ ap (λ (c : Bool). (member a j || member b j) || c) (sym (ap (λ (l : List ℕ). f l j) none ∙ e j)) ∙ g j d)
 
     pub meet-end : {n : ℕ} (x y : ℕ) → n ≡ k → ((j : ℕ) → member x j ≡ (member (bitOr read wrote) j && not (eqb at j)))

@@ -2,7 +2,7 @@
 use Prim.Native.Nat.{ℕ, _≤_, _<_}
 use native.Mathlib.Decide.{decLt, ℕ-discrete}
 use native.Mathlib.Omega.{arith}
-use mathlib.Core.Bool.{Bool, true, false, not, _&&_, _||_, or-false, and-false}
+use mathlib.Core.Bool.{Bool, true, false, not, _&&_, _||_, and-false, and-true, Bool·not-not}
 use mathlib.Core.List.{List}
 use mathlib.Core.Logic.{_⊎_, inl, inr}
 use mathlib.Core.Path.{_≡_, refl, sym, ap, _∙_}
@@ -22,7 +22,7 @@ use Rattle.edges.specs.Blocks.{at, usedCount}
 use Rattle.edges.specs.Times.{ended, over, Rising}
 use Rattle.edges.specs.Told.{Holds, EdgesTold}
 use Rattle.edges.proofs.Drawing.{Drawing, linked}
-use Rattle.edges.proofs.Rowed.{at-of, committed-at, committed-is, count-of, here, placed-is, rises, same-place}
+use Rattle.edges.proofs.Rowed.{at-of, committed-is, count-of, here, placed-is, rises, same-place}
 use Rattle.edges.proofs.Touching.{touched-is, by-is}
 
 module _ (rs : List Row) (ps : List ℕ) (s : State) (v : Facts s) (holds : Holds rs ps s) where
@@ -73,23 +73,15 @@ module _ (rs : List Row) (ps : List ℕ) (s : State) (v : Facts s) (holds : Hold
         after : (i : ℕ) (l : i < len) → committed (R i) ≡ true → start (R i) < done (R i)
         after i l c = v .ends (here s v i l) c .0
 
-        whole : (a : Bool) → (a && true) ≡ a
-        whole true = refl
-        whole false = refl
-
-        twice : (a : Bool) → not (not a) ≡ a
-        twice true = refl
-        twice false = refl
-
         pick : Dec (i < j) → Dec (j < i)
             → ((ltb j i && (touches s (N i) (N j) && not (ltb (done (R j)) (start (R i))))) || (ltb i j && (touches s (N i) (N j) || (touches s (N j) (N i) && ltb (done (R i)) (start (R j))))))
             ≡ (not (eqb i j) && ((touches s (N i) (N j) && ltb (start (R i)) (done (R j))) || (touches s (N j) (N i) && ltb (done (R i)) (start (R j)))))
         pick (yes l) d =
             rw (lt-ltb i j l, le-ltb j i (omega arith), ne-eqb i j (λ (e : i ≡ j). omega arith), lt-ltb (start (R i)) (done (R j)) (omega (arith, starts-rise i j l lj, after j lj cj)))
-            (ap (λ (b : Bool). b || (touches s (N j) (N i) && ltb (done (R i)) (start (R j)))) (sym (whole (touches s (N i) (N j)))))
+            (ap (λ (b : Bool). b || (touches s (N j) (N i) && ltb (done (R i)) (start (R j)))) (sym (and-true (touches s (N i) (N j)))))
         pick (no l) (yes h) =
             rw (lt-ltb j i h, le-ltb i j (omega arith), ne-eqb i j (λ (e : i ≡ j). omega arith), le-ltb (done (R i)) (start (R j)) (omega (arith, starts-rise j i h li, after i li ci)))
-            ((λ q. (touches s (N i) (N j) && (ap not (sym (not-after j i lj li cj)) ∙ twice (ltb (start (R i)) (done (R j)))) q) || sym (and-false (touches s (N j) (N i))) q))
+            ((λ q. (touches s (N i) (N j) && (ap not (sym (not-after j i lj li cj)) ∙ Bool·not-not (ltb (start (R i)) (done (R j)))) q) || sym (and-false (touches s (N j) (N i))) q))
         pick (no l) (no h) = rw (le-ltb i j (omega arith), le-ltb j i (omega arith), eq-eqb i j (omega arith)) refl
 
     pub told : {n a before k : ℕ} {tab ends g : List ℕ} → a ≡ usedCount rs → Drawing w n rs ps tab ends g before k a → (i j : ℕ) → inTable g i j ≡ edges s (N i) (N j)

@@ -1,8 +1,6 @@
 -- `edges::link` meets its contract: `Linking`. Assumes nothing.
 use borrow.Author.Needs.{needs}
 use native.Mathlib.Omega.{arith}
-use mathlib.Core.Path.{_∙_}
-use lib.ListN.{length}
 use Rattle.graph.proofs.Sets.{member-lt}
 use Prim.Native.Nat.{_<_, _^_}
 use Rattle.edges.proofs.Draws.{Linking, link-start, link-next, link-done, taken-falls}
