@@ -1,174 +1,131 @@
--- Drawing the edges from the index: the rows that a row meets, which of them are taken, and the loop over the rows. Assumes nothing.
-use Prim.Native.Nat.{ℕ, _+_, _-_, _^_, _≤_, _<_}
-use native.Mathlib.Decide.{ℕ-discrete, decLt}
-use native.Mathlib.Numerals.{add-one}
+-- Loops over the rows of a set: those that ended before a moment, and the edges from each of them. Assumes nothing.
+use Prim.Native.Nat.{ℕ, _^_, _≤_, _<_}
+use native.Mathlib.Decide.{ℕ-discrete}
 use native.Mathlib.Omega.{arith}
-use mathlib.Core.Bool.{Bool, true, false, not, _&&_, _||_, or-false, or-assoc, and-false}
-use mathlib.Core.List.{List, _∷_}
+use mathlib.Core.Bool.{Bool, true, false, not, cond, _&&_, _||_, or-assoc, or-false, and-true, false≢true}
+use mathlib.Core.List.{List}
 use mathlib.Core.Path.{_≡_, refl, sym, ap, subst, _∙_}
-use lib.Bits.{bitOr, bitAnd}
-use lib.Dec.{eqb, ltb, leb}
-use lib.ListN.{length, getD, set, drop, replicate, length-set, length-replicate, drop-of-length-le}
-use lib.Seq.{drop-cons, getD-set-same, getD-set-other}
-use lib.Pow.{pow-pos}
-use borrow.Author.Tests.{eq-eqb, ne-eqb, lt-ltb, le-ltb, le-leb, lt-leb}
-use Rattle.rules.specs.Raw.{unpack}
-use Rattle.terms.specs.Words.{item, isWrite}
+use lib.Bits.{bitOr, bitAnd, and-le-l}
+use lib.Dec.{T, eqb}
+use lib.ListN.{length, getD, set, length-set}
+use lib.Seq.{getD-set-same, getD-set-other}
+use borrow.Author.Tests.{eq-eqb, ne-eqb}
+use Rattle.laws.proofs.Lists.{T-out}
 use Rattle.graph.specs.Sets.{member, outside}
-use Rattle.graph.proofs.Sets.{member-zero, member-one, member-or, member-and, member-ones, member-past, member-outside}
+use Rattle.graph.proofs.Sets.{member-zero, member-or, member-and, member-with, member-outside}
 use Rattle.edges.specs.Blocks.{has}
-use Rattle.edges.specs.Drawn.{meets, metBy, Meets, span, picked, drawn, Drawn}
-use Rattle.edges.proofs.Indexes.{ltb-next, ltb-here, has-zeros}
+use Rattle.edges.specs.Drawn.{Linked, Drawn}
+use Rattle.edges.proofs.Meeting.{has-put}
 
--- ---- the rows that a row meets: k records are looked at
-pub record Meeting (w : ℕ) (tab ps : List ℕ) (t b k : ℕ) : Type 0 where
-  pub at-most : k ≤ length ps
-  pub touched : (j : ℕ) → (member t j || meets w tab (drop k ps) j) ≡ meets w tab ps j
-  pub by : (j : ℕ) → (member b j || metBy w tab (drop k ps) j) ≡ metBy w tab ps j
+-- a set without one row
+pub without-one : (w a j o : ℕ) {r : ℕ} → a < 2 ^ w → o < 2 ^ w → o ≡ bitOr 0 (2 ^ j) → r ≡ outside w a o → (i : ℕ) → member r i ≡ (member a i && not (eqb j i))
+without-one w a j o ha ho eo er i =
+    ap (λ (m : ℕ). member m i) er ∙ member-outside w a o i ha ho
+    ∙ ap (λ (b : Bool). member a i && not b) (ap (λ (m : ℕ). member m i) eo ∙ member-with 0 j i ∙ ap (λ (b : Bool). b || eqb j i) (member-zero i))
 
-pub meet-start : (w : ℕ) (tab ps : List ℕ) → Meeting w tab ps 0 0 0
-meet-start w tab ps =
-    record {
-      at-most = omega arith;
-      touched = λ j. ap (λ (b : Bool). b || meets w tab ps j) (member-zero j);
-      by = λ j. ap (λ (b : Bool). b || metBy w tab ps j) (member-zero j);
-    }
+-- a row that is taken out of the rows left
+module _ (w left j o : ℕ) {r : ℕ} (hl : left < 2 ^ w) (ho : o < 2 ^ w) (eo : o ≡ bitOr 0 (2 ^ j)) (er : r ≡ outside w left o) (t : T (member left j)) where
+  taken : (i : ℕ) → member r i ≡ (member left i && not (eqb j i))
+  taken = without-one w left j o hl ho eo er
 
-module _ {w : ℕ} {tab ps : List ℕ} {t b k : ℕ} (s : Meeting w tab ps t b k) where
-  module _ (l : k < length ps) {i : ℕ} (is : i ≡ item (unpack (getD ps k 0))) where
-    next : drop k ps ≡ getD ps k 0 ∷ drop (k + 1) ps
-    next = drop-cons ps k 0 l ∙ ap (λ (n : ℕ). getD ps k 0 ∷ drop n ps) (sym (add-one k))
+  pub taken-falls : r < left
+  unfolding outside
+  taken-falls = go (ℕ-discrete r left)
+    where
+      most : r ≤ left
+      most = subst (λ (x : ℕ). x ≤ left) (sym er) (and-le-l left _)
 
-    touched-next : (j : ℕ) → (member (bitOr t (getD tab (w + i) 0)) j || meets w tab (drop (k + 1) ps) j) ≡ meets w tab ps j
-    touched-next j =
-        ap (λ (c : Bool). c || meets w tab (drop (k + 1) ps) j) (member-or t (getD tab (w + i) 0) j ∙ ap (λ (n : ℕ). member t j || has tab (w + n) j) is)
-        ∙ or-assoc (member t j) (has tab (w + item (unpack (getD ps k 0))) j) (meets w tab (drop (k + 1) ps) j)
-        ∙ ap (λ (d : List ℕ). member t j || meets w tab d j) (sym next) ∙ s .touched j
+      go : Dec (r ≡ left) → r < left
+      go (yes e) = absurd (false≢true (sym (ap (λ (m : ℕ). member m j) (sym e) ∙ taken j ∙ rw (T-out (member left j) t, eq-eqb j j refl) refl) ∙ T-out (member left j) t))
+      go (no d) = omega (arith, most)
 
-    pub meet-read : isWrite (unpack (getD ps k 0)) ≡ false → Meeting w tab ps (bitOr t (getD tab (w + i) 0)) b (k + 1)
-    meet-read n =
-        record {
-          at-most = omega arith;
-          touched = touched-next;
-          by = λ j. ap (λ (c : Bool). member b j || ((c && has tab (item (unpack (getD ps k 0))) j) || metBy w tab (drop (k + 1) ps) j)) (sym n)
-              ∙ ap (λ (d : List ℕ). member b j || metBy w tab d j) (sym next) ∙ s .by j;
-        }
+  -- a test of the rows left, where j passes or fails it
+  pub left-passes : (f : ℕ → Bool) (b : Bool) → f j ≡ b → (i : ℕ) → (member left i && f i) ≡ ((b && eqb j i) || (member r i && f i))
+  left-passes f b e i = sym (ap (λ (c : Bool). (b && eqb j i) || (c && f i)) (taken i) ∙ go (ℕ-discrete j i))
+    where
+      here : (c : Bool) → ((c && true) || ((true && false) && c)) ≡ (true && c)
+      here true = refl
+      here false = refl
 
-    pub meet-write : isWrite (unpack (getD ps k 0)) ≡ true → Meeting w tab ps (bitOr t (getD tab (w + i) 0)) (bitOr b (getD tab i 0)) (k + 1)
-    meet-write y =
-        record {
-          at-most = omega arith;
-          touched = touched-next;
-          by = λ j. ap (λ (c : Bool). c || metBy w tab (drop (k + 1) ps) j) (member-or b (getD tab i 0) j ∙ ap (λ (n : ℕ). member b j || has tab n j) is)
-              ∙ or-assoc (member b j) (has tab (item (unpack (getD ps k 0))) j) (metBy w tab (drop (k + 1) ps) j)
-              ∙ ap (λ (c : Bool). member b j || ((c && has tab (item (unpack (getD ps k 0))) j) || metBy w tab (drop (k + 1) ps) j)) (sym y)
-              ∙ ap (λ (d : List ℕ). member b j || metBy w tab d j) (sym next) ∙ s .by j;
-        }
+      there : (b m c : Bool) → ((b && false) || ((m && true) && c)) ≡ (m && c)
+      there true true c = refl
+      there true false c = refl
+      there false true c = refl
+      there false false c = refl
 
-  pub meet-done : length ps ≤ k → Meets w tab ps t b
-  meet-done l =
+      go : Dec (j ≡ i) → ((b && eqb j i) || ((member left i && not (eqb j i)) && f i)) ≡ (member left i && f i)
+      go (yes q) = subst (λ (k : ℕ). ((b && eqb j k) || ((member left k && not (eqb j k)) && f k)) ≡ (member left k && f k)) q (rw (eq-eqb j j refl, T-out (member left j) t, e) (here b))
+      go (no d) = rw (ne-eqb j i d) (there b (member left i) (f i))
+
+-- ---- the rows that ended before a moment
+pub record Passing (f : ℕ → Bool) (touched before all left : ℕ) : Type 0 where
+  pub is : (j : ℕ) → (member all j || (member left j && f j)) ≡ (member before j || (member touched j && f j))
+
+pub pass-start : (w : ℕ) (f : ℕ → Bool) (touched before : ℕ) {left : ℕ} → touched < 2 ^ w → before < 2 ^ w → left ≡ outside w touched before → Passing f touched before before left
+pass-start w f touched before ht hb e =
+    record { is = λ j. ap (λ (b : Bool). member before j || (b && f j)) (ap (λ (m : ℕ). member m j) e ∙ member-outside w touched before j ht hb) ∙ shut (member before j) (member touched j) (f j) }
+  where
+    shut : (b t c : Bool) → (b || ((t && not b) && c)) ≡ (b || (t && c))
+    shut true t c = refl
+    shut false true c = refl
+    shut false false c = refl
+
+module _ {f : ℕ → Bool} {touched before all left : ℕ} (s : Passing f touched before all left) where
+  pub pass-next : (w j o : ℕ) {r : ℕ} → left < 2 ^ w → o < 2 ^ w → o ≡ bitOr 0 (2 ^ j) → r ≡ outside w left o → T (member left j) → f j ≡ false → Passing f touched before all r
+  pass-next w j o hl ho eo er t e = record { is = λ i. ap (λ (b : Bool). member all i || b) (sym (left-passes w left j o hl ho eo er t f false e i)) ∙ s .is i }
+
+  pub pass-more : (w j o : ℕ) {r more : ℕ} → left < 2 ^ w → o < 2 ^ w → o ≡ bitOr 0 (2 ^ j) → r ≡ outside w left o → T (member left j) → f j ≡ true → more ≡ bitOr all (2 ^ j)
+      → Passing f touched before more r
+  pass-more w j o {r} {more} hl ho eo er t e em =
       record {
-        touched = λ j. sym (or-false (member t j)) ∙ ap (λ (d : List ℕ). member t j || meets w tab d j) (sym (drop-of-length-le ps l)) ∙ s .touched j;
-        by = λ j. sym (or-false (member b j)) ∙ ap (λ (d : List ℕ). member b j || metBy w tab d j) (sym (drop-of-length-le ps l)) ∙ s .by j;
+        is = λ i. ap (λ (b : Bool). b || (member r i && f i)) (ap (λ (m : ℕ). member m i) em ∙ member-with all j i)
+            ∙ or-assoc (member all i) (eqb j i) (member r i && f i) ∙ ap (λ (b : Bool). member all i || b) (sym (left-passes w left j o hl ho eo er t f true e i)) ∙ s .is i;
       }
 
--- ---- the set that is taken
+  pub pass-done : left ≡ 0 → (j : ℕ) → member all j ≡ (member before j || (member touched j && f j))
+  pass-done e j = sym (or-false (member all j)) ∙ ap (λ (b : Bool). member all j || (b && f j)) (sym (ap (λ (m : ℕ). member m j) e ∙ member-zero j)) ∙ s .is j
 
--- the places before n have j where j is before n
-pub member-below : (n j : ℕ) → not (member (2 ^ n - 1) j) ≡ leb n j
-member-below n j = go (decLt j n)
-  where
-    go : Dec (j < n) → not (member (2 ^ n - 1) j) ≡ leb n j
-    go (yes h) = ap not (member-ones n j h) ∙ sym (lt-leb n j h)
-    go (no h) = ap not (member-past n (2 ^ n - 1) j (omega (arith, pow-pos n)) (omega arith)) ∙ sym (le-leb n j (omega arith))
+-- ---- an edge to i from each row of a set
+pub record Linking (from i : ℕ) (g₀ g : List ℕ) (left : ℕ) : Type 0 where
+  pub len : length g ≡ length g₀
+  pub is : (a j : ℕ) → (has g a j || (member left a && eqb i j)) ≡ (has g₀ a j || (member from a && eqb i j))
 
--- t without e, b without the places before from, both among some, and without i
-module _ (w t b e l among o : ℕ) {x y r : ℕ} (ht : t < 2 ^ w) (hb : b < 2 ^ w) (he : e < 2 ^ w) (hl : l < 2 ^ w) (hm : bitAnd (bitOr x y) among < 2 ^ w) (ho : o < 2 ^ w) where
-  pub pick-is : (from i : ℕ) → x ≡ outside w t e → y ≡ outside w b l → r ≡ outside w (bitAnd (bitOr x y) among) o → l ≡ 2 ^ from - 1 → o ≡ bitOr 0 (2 ^ i)
-      → (j : ℕ) → member r j ≡ picked (member t j) (member b j) (member e j) from (member among j) i j
-  pick-is from i ex ey er el eo j =
-      ap (λ (m : ℕ). member m j) er ∙ member-outside w (bitAnd (bitOr x y) among) o j hm ho
-      ∙ (λ q. (member-and (bitOr x y) among j ∙ ap (λ (c : Bool). c && member among j) (member-or x y j)) q && not (one q))
-      ∙ (λ q. (((first q) || (second q)) && member among j) && not (eqb i j))
+pub link-start : {from i : ℕ} {g : List ℕ} → Linking from i g g from
+link-start = record { len = refl; is = λ a j. refl }
+
+module _ {from i : ℕ} {g₀ g : List ℕ} {left : ℕ} (s : Linking from i g₀ g left) where
+  pub link-next : (w b o : ℕ) {r v : ℕ} → left < 2 ^ w → o < 2 ^ w → o ≡ bitOr 0 (2 ^ b) → r ≡ outside w left o → T (member left b) → b < length g → v ≡ bitOr (getD g b 0) (2 ^ i)
+      → Linking from i g₀ (set g b v) r
+  link-next w b o {r} {v} hl ho eo er t lb ev =
+      record {
+        len = length-set g b v ∙ s .len;
+        is = λ a j. ap (λ (c : Bool). c || (member r a && eqb i j)) (ap (λ (m : ℕ). has (set g b m) a j) ev ∙ has-put g b i a j lb)
+            ∙ moved (has g a j) (eqb b a) (eqb i j) (member r a)
+            ∙ ap (λ (c : Bool). has g a j || (c && eqb i j)) (sym (sym (and-true (member left a)) ∙ left-passes w left b o hl ho eo er t (λ x. true) true refl a ∙ ap (λ (c : Bool). eqb b a || c) (and-true (member r a))))
+            ∙ s .is a j;
+      }
     where
-      one : member o j ≡ eqb i j
-      one = ap (λ (m : ℕ). member m j) eo ∙ member-or 0 (2 ^ i) j ∙ ap (λ (c : Bool). c || member (2 ^ i) j) (member-zero j) ∙ member-one i j
+      moved : (x e y r : Bool) → ((x || (e && y)) || (r && y)) ≡ (x || ((e || r) && y))
+      moved true e y r = refl
+      moved false true true r = refl
+      moved false true false true = refl
+      moved false true false false = refl
+      moved false false y r = refl
 
-      first : member x j ≡ (member t j && not (member e j))
-      first = ap (λ (m : ℕ). member m j) ex ∙ member-outside w t e j ht he
+  pub link-done : left ≡ 0 → Linked from i g₀ g
+  link-done e = record { len = s .len; is = λ a j. sym (or-false (has g a j)) ∙ ap (λ (b : Bool). has g a j || (b && eqb i j)) (sym (ap (λ (m : ℕ). member m a) e ∙ member-zero a)) ∙ s .is a j }
 
-      second : member y j ≡ (member b j && leb from j)
-      second = ap (λ (m : ℕ). member m j) ey ∙ member-outside w b l j hb hl ∙ ap (λ (c : Bool). member b j && c) (ap (λ (m : ℕ). not (member m j)) el ∙ member-below from j)
-
--- ---- the loop over the rows: those before a are drawn, and `before` has those that are cut before a
-pub record DrawingTo (w n : ℕ) (tab ps ends cuts : List ℕ) (among : ℕ) (g : List ℕ) (before a : ℕ) : Type 0 where
-  pub drawn : Drawn w n tab ps ends cuts among g a
-  pub past : (j : ℕ) → member before j ≡ (member among j && ltb (getD cuts j 0) a)
-
-pub draw-start : (w n : ℕ) (tab ps ends cuts : List ℕ) (among : ℕ) {g : List ℕ} → g ≡ replicate n 0 → DrawingTo w n tab ps ends cuts among g 0 0
-draw-start w n tab ps ends cuts among {g} z =
+-- ---- both directions
+pub drawn : (w x y before i : ℕ) (g : List ℕ) {v : ℕ} {new : List ℕ} → x < 2 ^ w → before < 2 ^ w → i < length g → v ≡ outside w x before
+    → Linked (bitOr y (bitAnd x before)) i (set g i v) new → Drawn x y before i g new
+drawn w x y before i g {v} {new} hx hb li ev l =
     record {
-      drawn = record {
-        len = ap length z ∙ length-replicate {A = ℕ} n 0;
-        is = λ i j. ap (λ (t : List ℕ). has t i j) z ∙ has-zeros n i j ∙ sym (ap (λ (b : Bool). (b && member among i) && drawn w tab ps ends cuts among i j) (le-ltb i 0 (omega arith)));
-      };
-      past = λ j. member-zero j ∙ sym (ap (λ (b : Bool). member among j && b) (le-ltb (getD cuts j 0) 0 (omega arith)) ∙ and-false (member among j));
+      len = l .len ∙ length-set g i v;
+      is = λ a j. l .is a j
+          ∙ (λ q. here a j (ℕ-discrete i a) q || ((member-or y (bitAnd x before) a ∙ ap (λ (b : Bool). member y a || b) (member-and x before a)) q && eqb i j));
     }
-
--- before a, or at a
-ltb-or : (c a : ℕ) → (ltb c a || eqb c a) ≡ leb c a
-ltb-or c a = go (decLt c a) (ℕ-discrete c a)
   where
-    go : Dec (c < a) → Dec (c ≡ a) → (ltb c a || eqb c a) ≡ leb c a
-    go (yes h) d = rw (lt-ltb c a h) (sym (le-leb c a (omega arith)))
-    go (no h) (yes e) = rw (le-ltb c a (omega arith), eq-eqb c a e) (sym (le-leb c a (omega arith)))
-    go (no h) (no n) = rw (le-ltb c a (omega arith), ne-eqb c a n) (sym (lt-leb c a (omega arith)))
-
-leb-ltb : (c a : ℕ) → leb c a ≡ ltb c (a + 1)
-leb-ltb c a = go (decLt a c)
-  where
-    go : Dec (a < c) → leb c a ≡ ltb c (a + 1)
-    go (yes h) = lt-leb c a h ∙ sym (le-ltb c (a + 1) (omega arith))
-    go (no h) = le-leb c a (omega arith) ∙ sym (lt-ltb c (a + 1) (omega arith))
-
-module _ {w n : ℕ} {tab ps ends cuts : List ℕ} {among : ℕ} {g : List ℕ} {before a : ℕ} (s : DrawingTo w n tab ps ends cuts among g before a)
-    (shut : List ℕ) (f : (e j : ℕ) → has shut e j ≡ (member among j && eqb (getD cuts j 0) e)) where
-  cut-now : (j : ℕ) → member (bitOr before (getD shut a 0)) j ≡ (member among j && leb (getD cuts j 0) a)
-  cut-now j =
-      member-or before (getD shut a 0) j ∙ (λ q. s .past j q || f a j q) ∙ both (member among j) (ltb (getD cuts j 0) a) (eqb (getD cuts j 0) a)
-      ∙ ap (λ (b : Bool). member among j && b) (ltb-or (getD cuts j 0) a)
-    where
-      both : (m x y : Bool) → ((m && x) || (m && y)) ≡ (m && (x || y))
-      both true x y = refl
-      both false x y = refl
-
-  past-next : (j : ℕ) → member (bitOr before (getD shut a 0)) j ≡ (member among j && ltb (getD cuts j 0) (a + 1))
-  past-next j = cut-now j ∙ ap (λ (b : Bool). member among j && b) (leb-ltb (getD cuts j 0) a)
-
-  pub draw-skip : member among a ≡ false → DrawingTo w n tab ps ends cuts among g (bitOr before (getD shut a 0)) (a + 1)
-  draw-skip off = record { drawn = record { len = s .drawn .len; is = λ i j. s .drawn .is i j ∙ ap (λ (b : Bool). b && drawn w tab ps ends cuts among i j) (step i (ℕ-discrete a i)) }; past = past-next }
-    where
-      step : (i : ℕ) → Dec (a ≡ i) → (ltb i a && member among i) ≡ (ltb i (a + 1) && member among i)
-      step i (yes e) = subst (λ (k : ℕ). (ltb k a && member among k) ≡ (ltb k (a + 1) && member among k)) e (rw (off, and-false, and-false) refl)
-      step i (no d) = ap (λ (b : Bool). b && member among i) (sym (ltb-next i a d))
-
-  -- t and b are what the row at a meets, and v is what is taken of them
-  pub draw-next : {part : List ℕ} {t b : ℕ} (v : ℕ) → a < n → member among a ≡ true → part ≡ span ends ps a → Meets w tab part t b
-      → ((j : ℕ) → member v j ≡ picked (member t j) (member b j) (member (bitOr before (getD shut a 0)) j) (getD cuts a 0) (member among j) a j)
-      → DrawingTo w n tab ps ends cuts among (set g a v) (bitOr before (getD shut a 0)) (a + 1)
-  draw-next {part} {t} {b} v la on ep m h =
-      record { drawn = record { len = length-set g a v ∙ s .drawn .len; is = λ i j. step i j (ℕ-discrete a i) }; past = past-next }
-    where
-      taken : (j : ℕ) → member v j ≡ drawn w tab ps ends cuts among a j
-      taken j =
-          h j
-          ∙ (λ q. picked ((m .touched j ∙ ap (λ (d : List ℕ). meets w tab d j) ep) q) ((m .by j ∙ ap (λ (d : List ℕ). metBy w tab d j) ep) q) (cut-now j q) (getD cuts a 0) (member among j) a j)
-
-      step : (i j : ℕ) → Dec (a ≡ i) → has (set g a v) i j ≡ ((ltb i (a + 1) && member among i) && drawn w tab ps ends cuts among i j)
-      step i j (yes e) =
-          subst (λ (k : ℕ). has (set g a v) k j ≡ ((ltb k (a + 1) && member among k) && drawn w tab ps ends cuts among k j)) e
-          (ap (λ (x : ℕ). member x j) (getD-set-same g a v 0 (omega (arith, s .drawn .len))) ∙ taken j
-          ∙ (λ q. (sym (ltb-here a) q && sym on q) && drawn w tab ps ends cuts among a j))
-      step i j (no d) =
-          ap (λ (x : ℕ). member x j) (getD-set-other g a i v 0 (λ z. d (sym z))) ∙ s .drawn .is i j
-          ∙ ap (λ (c : Bool). (c && member among i) && drawn w tab ps ends cuts among i j) (sym (ltb-next i a d))
+    here : (a j : ℕ) → Dec (i ≡ a) → has (set g i v) a j ≡ cond (eqb i a) (member x j && not (member before j)) (has g a j)
+    here a j (yes q) = subst (λ (k : ℕ). has (set g i v) k j ≡ cond (eqb i k) (member x j && not (member before j)) (has g k j)) q
+        (rw (getD-set-same g i v 0 li, eq-eqb i i refl) (ap (λ (m : ℕ). member m j) ev ∙ member-outside w x before j hx hb))
+    here a j (no d) = rw (getD-set-other g i a v 0 (λ z. d (sym z)), ne-eqb i a d) refl

@@ -1,9 +1,9 @@
-pub mod Marks
-pub mod Cuts
+pub mod Places
 pub mod Indexes
 pub mod Timings
+pub mod Meeting
 pub mod Draws
-pub mod Places
+pub mod Drawing
 pub mod Rowed
 pub mod Ways
 pub mod Blocked

@@ -3,7 +3,7 @@ use Prim.Native.Nat.{ℕ, zero, suc, _≤_, _<_}
 use native.Mathlib.Omega.{arith}
 use mathlib.Core.Bool.{Bool, true, false, cond, _&&_, _||_}
 use mathlib.Core.List.{List, List·Memᴰ·head, List·Memᴰ·tail, [], _∷_, map}
-use mathlib.Core.Path.{_≡_, refl, sym, ap}
+use mathlib.Core.Path.{_≡_, refl, sym, ap, _∙_}
 use lib.ListN.{length, getD, drop}
 use Rattle.rules.specs.Lists.{any, all, pairs, until}
 use Rattle.lists.specs.Tables.{firstIndex}
@@ -42,6 +42,23 @@ module _ {A B : Type 0} (h : A → B) where
 pub any-agree : {A : Type 0} (p q : A → Bool) (xs : List A) → ((x : A) → x ∈ xs → p x ≡ q x) → any p xs ≡ any q xs
 any-agree p q [] h = refl
 any-agree p q (x ∷ xs) h = λ j. h x (List·Memᴰ·head refl) j || any-agree p q xs (λ y m. h y (List·Memᴰ·tail m)) j
+
+-- one of two tests is passed
+pub any-either : {A : Type 0} (p q : A → Bool) (xs : List A) → (any p xs || any q xs) ≡ any (λ x. p x || q x) xs
+any-either p q [] = refl
+any-either p q (x ∷ xs) = mixed (p x) (any p xs) (q x) (any q xs) ∙ ap (λ (b : Bool). (p x || q x) || b) (any-either p q xs)
+  where
+    mixed : (a b c d : Bool) → ((a || b) || (c || d)) ≡ ((a || c) || (b || d))
+    mixed true b c d = refl
+    mixed false true true d = refl
+    mixed false true false d = refl
+    mixed false false c d = refl
+
+-- a test that waits for b
+pub any-gated : {A : Type 0} (f : Bool → A → Bool) → ((x : A) → f false x ≡ false) → (b : Bool) (xs : List A) → any (f b) xs ≡ (b && any (f true) xs)
+any-gated f e true xs = refl
+any-gated f e false [] = refl
+any-gated f e false (x ∷ xs) = ap (λ (b : Bool). b || any (f false) xs) (e x) ∙ any-gated f e false xs
 
 -- ---- what stops a scan may stop it before: a list up to the first that passes z, where all that pass z pass p
 module _ {A : Type 0} (z p : A → Bool) (stops : (x : A) → z x ≡ true → p x ≡ true) where

@@ -1,49 +1,38 @@
--- The set of edges from each row, by the index of items, the rows that committed before its start, and those that started before its commit. Assumes nothing.
-use Prim.Native.Nat.{ℕ, _+_, _-_, _≤_, _<_}
+-- The rows that a row meets in the index of items, and the edges that are drawn between it and them. Assumes nothing.
+use Prim.Native.Nat.{ℕ, _+_}
 use mathlib.Core.Path.{_≡_}
-use mathlib.Core.Bool.{Bool, true, not, _&&_, _||_}
+use mathlib.Core.Bool.{Bool, not, cond, _&&_, _||_}
 use mathlib.Core.List.{List}
-use lib.Dec.{eqb, ltb, leb}
-use lib.ListN.{length, getD, take, drop}
+use lib.Dec.{eqb}
+use lib.ListN.{length}
 use Rattle.rules.specs.Lists.{any}
 use Rattle.rules.specs.Raw.{unpack}
 use Rattle.terms.specs.Words.{item, isWrite}
+use Rattle.lists.specs.Tables.{firstIndex}
 use Rattle.graph.specs.Sets.{member}
-use Rattle.edges.specs.Blocks.{has}
+use Rattle.edges.specs.Blocks.{foreign, front, has, hits}
 
--- j wrote an item of one of the records; j read or wrote an item that one of the records writes
-abbrev pub meets : ℕ → List ℕ → List ℕ → ℕ → Bool
-meets w tab ps j = any (λ p. has tab (w + item (unpack p)) j) ps
+-- h is what an index has. j wrote an item of one of the records; j read or wrote an item that one of the records writes
+abbrev pub meets : ℕ → (ℕ → ℕ → Bool) → List ℕ → ℕ → Bool
+meets w h ps j = any (λ p. h (w + item (unpack p)) j) ps
 
-abbrev pub metBy : ℕ → List ℕ → List ℕ → ℕ → Bool
-metBy w tab ps j = any (λ p. isWrite (unpack p) && has tab (item (unpack p)) j) ps
+abbrev pub metBy : ℕ → (ℕ → ℕ → Bool) → List ℕ → ℕ → Bool
+metBy w h ps j = any (λ p. isWrite (unpack p) && (h (item (unpack p)) j || h (w + item (unpack p)) j)) ps
 
--- both, as sets
-pub record Meets (w : ℕ) (tab ps : List ℕ) (t b : ℕ) : Type 0 where
-  pub touched : (j : ℕ) → member t j ≡ meets w tab ps j
-  pub by : (j : ℕ) → member b j ≡ metBy w tab ps j
+-- the r records of t at the front are marked in the index, for the row at a place; x and y are what they meet, without that row
+pub record Met (w at t : ℕ) (ps tab new : List ℕ) (r x y : ℕ) : Type 0 where
+  pub len : length new ≡ length tab
+  pub count : r ≡ firstIndex (foreign t) ps
+  pub is : (e j : ℕ) → has new e j ≡ (has tab e j || (eqb at j && any (hits w e) (front t ps)))
+  pub touched : (j : ℕ) → member x j ≡ (not (eqb at j) && meets w (has tab) (front t ps) j)
+  pub by : (j : ℕ) → member y j ≡ (not (eqb at j) && metBy w (has tab) (front t ps) j)
 
--- the records of the row at i
-abbrev pub span : List ℕ → List ℕ → ℕ → List ℕ
-span ends ps i = take (getD ends (i + 1) 0 - getD ends i 0) (drop (getD ends i 0) ps)
+-- an edge to i is drawn from each row of a set
+pub record Linked (from i : ℕ) (g new : List ℕ) : Type 0 where
+  pub len : length new ≡ length g
+  pub is : (a j : ℕ) → has new a j ≡ (has g a j || (member from a && eqb i j))
 
--- what is taken of the rows met: those not ended before, and of those that met it, the ones from a place on; among some, and not i
-abbrev pub picked : Bool → Bool → Bool → ℕ → Bool → ℕ → ℕ → Bool
-picked t b e from among i j = ((t && not e) || (b && leb from j)) && among && not (eqb i j)
-
-abbrev pub drawn : ℕ → List ℕ → List ℕ → List ℕ → List ℕ → ℕ → ℕ → ℕ → Bool
-drawn w tab ps ends cuts among i j =
-    picked (meets w tab (span ends ps i) j) (metBy w tab (span ends ps i) j) (member among j && leb (getD cuts j 0) i) (getD cuts i 0) (member among j) i j
-
--- what drawing needs: sets of the rows that are cut at a place, and where the records of the first n rows begin
-pub record Drawing (w n : ℕ) (tab ps ends cuts shut : List ℕ) (among : ℕ) : Type 0 where
-  pub tab-len : length tab ≡ w + w
-  pub is : (e j : ℕ) → has shut e j ≡ (member among j && eqb (getD cuts j 0) e)
-  pub order : (i : ℕ) → i < n → getD ends i 0 ≤ getD ends (i + 1) 0
-  pub inside : (i : ℕ) → i < n → getD ends (i + 1) 0 ≤ length ps
-  pub low : (i : ℕ) → member among i ≡ true → getD cuts i 0 ≤ n
-
--- the sets of the first a rows
-pub record Drawn (w n : ℕ) (tab ps ends cuts : List ℕ) (among : ℕ) (g : List ℕ) (a : ℕ) : Type 0 where
-  pub len : length g ≡ n
-  pub is : (i j : ℕ) → has g i j ≡ ((ltb i a && member among i) && drawn w tab ps ends cuts among i j)
+-- the edges between i and the rows that it meets
+pub record Drawn (x y before i : ℕ) (g new : List ℕ) : Type 0 where
+  pub len : length new ≡ length g
+  pub is : (a j : ℕ) → has new a j ≡ (cond (eqb i a) (member x j && not (member before j)) (has g a j) || ((member y a || (member x a && member before a)) && eqb i j))

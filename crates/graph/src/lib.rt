@@ -52,7 +52,7 @@ pub fn are_apart(a: Set, b: Set) -> bool
 }
 
 // One of the set's rows: the lowest.
-fn first(s: Set) -> usize
+pub fn first(s: Set) -> usize
     requires { ⌜ 0 < s ⌝ }
     ensures { λ r. ⌜ T (member s r) ⌝ }
 {

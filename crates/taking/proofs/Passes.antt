@@ -18,6 +18,7 @@ use Rattle.lists.proofs.Scans.{Going, onwards, first-start, first-next, first-h
 use Rattle.lists.proofs.Untils.{until-first}
 use Rattle.laws.proofs.Lists.{_∈_}
 use Rattle.graph.specs.Sets.{member}
+use Rattle.graph.proofs.Sets.{member-zero}
 use Rattle.edges.proofs.Indexes.{getD-zeros}
 use Rattle.taking.specs.Leaving.{placeOf}
 use Rattle.taking.specs.Passing.{writes, commitAt, Latest, Entry, Passed}
@@ -27,28 +28,28 @@ pub data Best (gone : ℕ) (nums ends qs : List ℕ) (v₀ w₀ v w b : ℕ) (i 
   none : ((q : ℕ) → List·Memᴰ q qs → writes gone nums i q ≡ true → commitAt nums ends q ≡ 0) → b ≡ 0 → v ≡ v₀ → w ≡ w₀ → Best gone nums ends qs v₀ w₀ v w b i
   some : (p : ℕ) → Latest gone nums ends qs i p → b ≡ commitAt nums ends p → v ≡ unpack p .word → w ≡ txn (unpack p) → Best gone nums ends qs v₀ w₀ v w b i
 
--- k records are looked at
-pub record PassingTo (gone : ℕ) (nums ends ps v₀ w₀ v w best : List ℕ) (k : ℕ) : Type 0 where
+-- k records are looked at, on a board of n items
+pub record PassingTo (n gone : ℕ) (nums ends ps v₀ w₀ v w best : List ℕ) (k : ℕ) : Type 0 where
   pub values-len : length v ≡ length v₀
   pub writers-len : length w ≡ length w₀
-  pub best-len : length best ≡ 256
+  pub best-len : length best ≡ n
   pub going : Going ps (onwards (λ p. eqb p 0) k) (firstIndex (λ p. eqb p 0) ps) k
   pub each : (i : ℕ) → Best gone nums ends (take k ps) (getD v₀ i 0) (getD w₀ i 0) (getD v i 0) (getD w i 0) (getD best i 0) i
 
 no-member : {q : ℕ} → q ∈ [] → ⊥
 no-member m = elim m [ ]
 
-pub pass-start : (gone : ℕ) (nums ends ps v w : List ℕ) {best : List ℕ} → best ≡ replicate 256 0 → PassingTo gone nums ends ps v w v w best 0
-pass-start gone nums ends ps v w {best} e =
+pub pass-start : (n gone : ℕ) (nums ends ps v w : List ℕ) {best : List ℕ} → best ≡ replicate n 0 → PassingTo n gone nums ends ps v w v w best 0
+pass-start n gone nums ends ps v w {best} e =
     record {
       values-len = refl;
       writers-len = refl;
-      best-len = ap length e ∙ length-replicate {A = ℕ} 256 0;
+      best-len = ap length e ∙ length-replicate {A = ℕ} n 0;
       going = first-start (λ p. eqb p 0);
-      each = λ i. none (λ q m h. absurd (no-member m)) (ap (λ (l : List ℕ). getD l i 0) e ∙ getD-zeros 256 i) refl refl;
+      each = λ i. none (λ q m h. absurd (no-member m)) (ap (λ (l : List ℕ). getD l i 0) e ∙ getD-zeros n i) refl refl;
     }
 
-module _ {gone : ℕ} {nums ends ps v₀ w₀ v w best : List ℕ} {k : ℕ} (s : PassingTo gone nums ends ps v₀ w₀ v w best k) where
+module _ {n gone : ℕ} {nums ends ps v₀ w₀ v w best : List ℕ} {k : ℕ} (s : PassingTo n gone nums ends ps v₀ w₀ v w best k) where
   module _ (l : k < length ps) (used : eqb (getD ps k 0) 0 ≡ false) where
     longer : take (k + 1) ps ≡ take k ps ++ (getD ps k 0 ∷ [])
     longer = ap (λ (n : ℕ). take n ps) (add-one k) ∙ take-suc ps k 0 l
@@ -105,11 +106,11 @@ module _ {gone : ℕ} {nums ends ps v₀ w₀ v w best : List ℕ} {k : ℕ} (s 
     others i j e n = ap (λ (b : Bool). (member gone (placeOf nums (txn (unpack (getD ps k 0)))) && isWrite (unpack (getD ps k 0))) && b) (ne-eqb (item (unpack (getD ps k 0))) j (λ q. n (sym e ∙ q)))
         ∙ mathlib.Core.Bool.and-false (member gone (placeOf nums (txn (unpack (getD ps k 0)))) && isWrite (unpack (getD ps k 0)))
 
-    pub pass-skip : ((i : ℕ) → writes gone nums i (getD ps k 0) ≡ false) → PassingTo gone nums ends ps v₀ w₀ v w best (k + 1)
-    pass-skip n =
-        record { values-len = s .values-len; writers-len = s .writers-len; best-len = s .best-len; going = first-next (λ p. eqb p 0) (s .going) 0 l used; each = λ i. stays-best i (n i) (s .each i) }
+    pub pass-skip : ((i : ℕ) → writes gone nums i (getD ps k 0) ≡ false) → PassingTo n gone nums ends ps v₀ w₀ v w best (k + 1)
+    pass-skip off =
+        record { values-len = s .values-len; writers-len = s .writers-len; best-len = s .best-len; going = first-next (λ p. eqb p 0) (s .going) 0 l used; each = λ i. stays-best i (off i) (s .each i) }
 
-    pub pass-low : (i : ℕ) → item (unpack (getD ps k 0)) ≡ i → commitAt nums ends (getD ps k 0) ≤ getD best i 0 → PassingTo gone nums ends ps v₀ w₀ v w best (k + 1)
+    pub pass-low : (i : ℕ) → item (unpack (getD ps k 0)) ≡ i → commitAt nums ends (getD ps k 0) ≤ getD best i 0 → PassingTo n gone nums ends ps v₀ w₀ v w best (k + 1)
     pass-low i e h =
         record { values-len = s .values-len; writers-len = s .writers-len; best-len = s .best-len; going = first-next (λ p. eqb p 0) (s .going) 0 l used; each = λ j. go j (ℕ-discrete i j) }
       where
@@ -117,8 +118,8 @@ module _ {gone : ℕ} {nums ends ps v₀ w₀ v w best : List ℕ} {k : ℕ} (s 
         go j (yes q) = keeps-best j (subst (λ (a : ℕ). commitAt nums ends (getD ps k 0) ≤ getD best a 0) q h) (s .each j)
         go j (no n) = stays-best j (others i j e n) (s .each j)
 
-    pub pass-put : (i : ℕ) {c x t : ℕ} → item (unpack (getD ps k 0)) ≡ i → i < 256 → length v₀ ≡ 256 → length w₀ ≡ 256 → writes gone nums i (getD ps k 0) ≡ true → c ≡ commitAt nums ends (getD ps k 0) → getD best i 0 < c
-        → x ≡ unpack (getD ps k 0) .word → t ≡ txn (unpack (getD ps k 0)) → PassingTo gone nums ends ps v₀ w₀ (set v i x) (set w i t) (set best i c) (k + 1)
+    pub pass-put : (i : ℕ) {c x t : ℕ} → item (unpack (getD ps k 0)) ≡ i → i < n → length v₀ ≡ n → length w₀ ≡ n → writes gone nums i (getD ps k 0) ≡ true → c ≡ commitAt nums ends (getD ps k 0) → getD best i 0 < c
+        → x ≡ unpack (getD ps k 0) .word → t ≡ txn (unpack (getD ps k 0)) → PassingTo n gone nums ends ps v₀ w₀ (set v i x) (set w i t) (set best i c) (k + 1)
     pass-put i {c} {x} {t} e li lv lw y ec lt ex et =
         record {
           values-len = length-set v i x ∙ s .values-len;
@@ -162,3 +163,8 @@ off-write false x e = refl
 
 pub off-gone : {g : Bool} (w x : Bool) → g ≡ false → (g && w && x) ≡ false
 off-gone w x e = ap (λ (b : Bool). b && w && x) e
+
+-- where no row goes, nothing passes
+pub pass-none : (gone : ℕ) (nums ends ps v w : List ℕ) → gone ≡ 0 → Passed gone nums ends ps v w v w
+pass-none gone nums ends ps v w e =
+    record { values-len = refl; writers-len = refl; entry = λ i. Entry.kept (λ q m h. absurd (false≢true (sym (off-gone _ _ (ap (λ (g : ℕ). member g (placeOf nums (txn (unpack q)))) e ∙ member-zero _)) ∙ h))) refl refl }

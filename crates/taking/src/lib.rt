@@ -183,10 +183,14 @@ fn pass(
     }
 }
 
+// The same with rows by value. Mostly no row goes, and then no record is read.
 pub fn pass_on(values: &mut [u32], writers: &mut [u32], rows: [Row; ROWS], recs: &[u64], gone: Set)
     requires { do ⌜ (length (now values) ≡ (← ⟦ITEMS⟧)) × (length (now writers) ≡ (← ⟦ITEMS⟧)) ⌝ }
     ensures { λ _. ⌜ Passed gone (map num rows) (map done rows) (now (recs .entry)) (now (values .entry)) (now (writers .entry)) (now (values .exit)) (now (writers .exit)) ⌝ }
 {
+    if gone == 0 {
+        return;
+    }
     let nums = numbers(rows);
     let ends = commits(rows);
     pass(values, writers, recs, &nums, &ends, gone);

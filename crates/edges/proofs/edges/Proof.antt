@@ -1,84 +1,84 @@
--- `edges::edges` meets its contract: what is drawn from the index and the cuts. Assumes nothing.
-use native.Mathlib.Omega.{arith}
-use mathlib.Core.Path.{refl}
-use lib.Dec.{eqb}
-use Rattle.terms.specs.Words.{num}
-use Rattle.edges.proofs.Indexes.{first-most}
-use Rattle.edges.proofs.Timings.{ended-late}
-use Rattle.edges.proofs.Telling.{drawing, edges-told}
+-- `edges::edges` meets its contract: `Drawing`. Assumes nothing.
 use borrow.Author.Needs.{needs}
+use Prim.Native.Nat.{_-_}
+use native.Mathlib.Omega.{arith}
+use mathlib.Core.Bool.{not}
+use mathlib.Core.Path.{refl, ap}
+use lib.Dec.{eqb}
+use borrow.Author.Tests.{eq-eqb, ne-eqb}
+use Rattle.rules.specs.Raw.{zeroRow}
+use Rattle.terms.specs.Words.{num}
+use Rattle.lists.proofs.Scans.{Going, onwards, first-start, first-next, first-here, first-done}
+use Rattle.edges.specs.Blocks.{usedCount}
+use Rattle.edges.proofs.Drawing.{Drawing, draw-none, draw-skip, draw-next, most-next}
+use Rattle.edges.proofs.Telling.{edges-told}
 use Rattle.edges.proofs.edges.Statement.{statement}
 use Rattle.edges.proofs.edges.Tie as tie
 
-slice-aggregate-starts : tie.Need-slice-aggregate-starts
-slice-aggregate-starts c = search needs
+abbrev Inv-loop : tie.InvT-loop
+Inv-loop recs rows tab₀ ends₀ g₀ before₀ k₀ a₀ tab ends g before k a = Drawing 256 32 rows recs tab ends g before k a × Going rows (onwards (λ r. eqb (num r) 0) a) (usedCount rows) a
 
-starts-requires : tie.Need-starts-requires
-starts-requires c κs = search needs
+abbrev μ-loop : tie.MeasureT-loop
+μ-loop recs rows tab₀ ends₀ g₀ before₀ k₀ a₀ tab ends g before k a = 32 - a
 
-slice-aggregate-index : tie.Need-slice-aggregate-index
-slice-aggregate-index c = search needs
+loop-holds : tie.Need-loop-holds Inv-loop μ-loop
+loop-holds c = (draw-none 256 32 _ _ refl refl refl, first-start (λ r. eqb (num r) 0))
 
-index-requires : tie.Need-index-requires
-index-requires c κs = (refl, omega (arith, c .before .before .starts .ensures .0, first-most (λ r. eqb (num r) 0) (c .before .before .before .before .before .args .rows)))
+returns : tie.Need-returns Inv-loop μ-loop
+returns c = let l = c .before .before .before .loop in edges-told 256 32 (omega arith) _ _ (first-here (λ r. eqb (num r) 0) (l .inv .1) zeroRow (search needs) (eq-eqb _ 0 (c .if1 .taken))) (l .inv .0)
 
-slice-aggregate-times : tie.Need-slice-aggregate-times
-slice-aggregate-times c = search needs
+add-k : tie.Need-add-k Inv-loop μ-loop
+add-k c = let m = most-next (c .before .before .before .before .before .before .loop .inv .0) refl refl (c .count .ensures) in search needs
 
-slice-aggregate-times-2 : tie.Need-slice-aggregate-times-2
-slice-aggregate-times-2 c = search needs
+loop-again : tie.Need-loop-again Inv-loop μ-loop
+loop-again c = let l = c .before .before .before .before .before .before .loop in
+    (draw-skip (l .inv .0) refl refl (c .count .ensures) (ap not (eq-eqb _ 0 (c .before .before .if2 .taken))), first-next (λ r. eqb (num r) 0) (l .inv .1) zeroRow (search needs) (ne-eqb _ 0 (c .before .before .before .if1 .left)))
 
-times-requires : tie.Need-times-requires
-times-requires c κs = let a = c .before .before .before .before .before .before in (omega (arith, a .starts .ensures .0, first-most (λ r. eqb (num r) 0) (a .before .before .before .args .rows)), a .starts .ensures .1, refl, a .starts .ensures .2)
+add-k-2 : tie.Need-add-k-2 Inv-loop μ-loop
+add-k-2 c = let m = most-next (c .before .before .before .before .before .before .before .before .before .loop .inv .0) refl refl (c .before .before .meet .ensures .count) in search needs
 
-late-requires : tie.Need-late-requires
-late-requires c κs = search needs
+loop-again-2 : tie.Need-loop-again-2 Inv-loop μ-loop
+loop-again-2 c = let l = c .before .before .before .before .before .before .before .before .before .before .before .before .before .before .loop in
+    let m = c .before .before .before .before .before .before .before .meet in
+    let p = c .before .before .before .past in
+    let u = first-next (λ r. eqb (num r) 0) (l .inv .1) zeroRow (search (needs, c .before .before .before .before .before .before .before .before .before .before .before .before .before .loop-test .taken, c .before .before .before .before .before .before .before .before .before .before .before .before .before .before .before .before .good)) (ne-eqb _ 0 (c .before .before .before .before .before .before .before .before .before .before .before .if1 .left)) in
+    (draw-next (l .inv .0) refl refl (m .ensures .count) (m .result .touched) (m .result .by) (p .result) (ap not (ne-eqb _ 0 (c .before .before .before .before .before .before .before .before .before .before .if2 .left))) (search needs) (omega (arith, u .same)) refl refl (m .ensures) (p .ensures) (c .before .draw .ensures), u)
 
-slice-aggregate-draw : tie.Need-slice-aggregate-draw
-slice-aggregate-draw c = search needs
-
-slice-aggregate-draw-2 : tie.Need-slice-aggregate-draw-2
-slice-aggregate-draw-2 c = search needs
-
-slice-aggregate-draw-3 : tie.Need-slice-aggregate-draw-3
-slice-aggregate-draw-3 c = search needs
-
-slice-aggregate-draw-4 : tie.Need-slice-aggregate-draw-4
-slice-aggregate-draw-4 c = search needs
-
-draw-requires : tie.Need-draw-requires
-draw-requires c κs = let a = c .before .before .before .before .before .before in
-    let b = a .before .before .before .before in
-    let d = b .before .before .before in
-    let e = d .before .before .before in
-    let m = c .before .before .before .before .late in (
-      (omega (arith, d .starts .ensures .0, first-most (λ r. eqb (num r) 0) (e .args .rows)), search needs, a .times .ensures .0, search needs),
-      drawing (e .args .rows) (e .args .recs .now) (b .index .ensures) (m .result) (a .times .ensures .1) (ended-late (e .args .rows) (m .result) (d .starts .ensures .0) (m .ensures)),
-    )
-
-returns : tie.Need-returns
-returns c = let a = c .before .before .before .before .before .before .before in
-    let b = a .before .before .before .before in
-    let d = b .before .before .before in
-    let e = d .before .before .before in
-    let m = c .before .before .before .before .before .late in
-    edges-told 256 32 (omega arith) (e .args .rows) (e .args .recs .now) (d .starts .ensures .0) (m .result) (b .index .ensures) (a .times .ensures .1) (ended-late (e .args .rows) (m .result) (d .starts .ensures .0) (m .ensures)) (c .draw .ensures)
+returns-2 : tie.Need-returns-2 Inv-loop μ-loop
+returns-2 c = let l = c .before .loop in edges-told 256 32 (omega arith) _ _ (first-done (λ r. eqb (num r) 0) (l .inv .1) (search needs)) (l .inv .0)
 
 pub edges-spec : {M : Type 1} → statement M
 edges-spec =
     tie.close
     (tie.spec
-    slice-aggregate-starts
-    starts-requires
-    slice-aggregate-index
-    index-requires
-    slice-aggregate-times
-    slice-aggregate-times-2
-    times-requires
-    late-requires
-    slice-aggregate-draw
-    slice-aggregate-draw-2
-    slice-aggregate-draw-3
-    slice-aggregate-draw-4
-    draw-requires
-    returns)
+    Inv-loop
+    μ-loop
+    loop-holds
+    (λ c. search needs)
+    (λ c. search needs)
+    returns
+    (λ c. search needs)
+    (λ c. search needs)
+    (λ c. search needs)
+    (λ c. search needs)
+    (λ c. search needs)
+    (λ c κs. search needs)
+    add-k
+    (λ c. search needs)
+    loop-again
+    (λ c. search needs)
+    (λ c. search needs)
+    (λ c. search needs)
+    (λ c. search needs)
+    (λ c. search needs)
+    (λ c. search needs)
+    (λ c. search needs)
+    (λ c κs. search needs)
+    add-k-2
+    (λ c. search needs)
+    (λ c κs. search needs)
+    (λ c. search needs)
+    (λ c κs. search needs)
+    (λ c. search needs)
+    loop-again-2
+    returns-2)

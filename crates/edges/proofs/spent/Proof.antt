@@ -2,7 +2,6 @@
 use Prim.Native.Nat.{ℕ}
 use Rattle.edges.specs.Blocks.{usedCount}
 use Rattle.edges.specs.Times.{placed, since}
--- `edges::spent` meets its contract. Assumes nothing.
 use native.Mathlib.Omega.{arith}
 use mathlib.Core.Path.{_∙_, ap}
 use Rattle.edges.proofs.Spending.{spent-told}

@@ -3,7 +3,6 @@ use Prim.Native.Nat.{_≤_, ℕ, _-_}
 use mathlib.Core.Path.{subst, _≡_, refl, _∙_, ap, sym}
 use native.Mathlib.Omega.{arith}
 use Rattle.taking.proofs.Passes.{off-write, off-gone, PassingTo, pass-start, pass-skip, pass-low, pass-put, pass-stop, pass-done}
--- `taking::pass` meets its contract: `PassingTo`. Assumes nothing.
 use borrow.Author.Needs.{needs}
 use lib.ListN.{length, getD}
 use borrow.Author.Tests.{eq-eqb, ne-eqb}
@@ -17,7 +16,7 @@ use Rattle.taking.proofs.pass.Statement.{statement}
 use Rattle.taking.proofs.pass.Tie as tie
 
 abbrev Inv-loop : tie.InvT-loop
-Inv-loop values₀ writers₀ recs nums ends gone best₀ last₀ at₀ k₀ values writers best last at k = PassingTo gone nums ends recs values₀ writers₀ values writers best k × (at ≡ placeOf nums last)
+Inv-loop values₀ writers₀ recs nums ends gone best₀ last₀ at₀ k₀ values writers best last at k = PassingTo 256 gone nums ends recs values₀ writers₀ values writers best k × (at ≡ placeOf nums last)
 
 abbrev μ-loop : tie.MeasureT-loop
 μ-loop values₀ writers₀ recs nums ends gone best₀ last₀ at₀ k₀ values writers best last at k = length recs - k
@@ -26,7 +25,7 @@ find-requires : tie.Need-find-requires Inv-loop μ-loop
 find-requires c κs = search needs
 
 loop-holds : tie.Need-loop-holds Inv-loop μ-loop
-loop-holds c = let a = c .before .before .before .before .before .before .args in (pass-start (a .gone) (a .nums .now) (a .ends .now) (a .recs .now) (a .values .now) (a .writers .now) refl, c .find .ensures)
+loop-holds c = let a = c .before .before .before .before .before .before .args in (pass-start 256 (a .gone) (a .nums .now) (a .ends .now) (a .recs .now) (a .values .now) (a .writers .now) refl, c .find .ensures)
 
 mul-x : tie.Need-mul-x Inv-loop μ-loop
 mul-x c = search needs

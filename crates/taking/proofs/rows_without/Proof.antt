@@ -1,6 +1,5 @@
 -- `taking::rows_without` meets its contract: the rows that stay, one after the other, and zero rows after them. Assumes nothing.
 use borrow.Author.Tests.{not-true, not-false}
--- `taking::rows_without` meets its contract: `Leaving`. Assumes nothing.
 use borrow.Author.Needs.{needs}
 use Prim.Native.Nat.{_-_}
 use mathlib.Core.Path.{refl, sym, _∙_}
