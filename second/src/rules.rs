@@ -234,13 +234,18 @@ pub trait Rules {
 
     /// The run of a whole file into a buffer: 65,536 times its number plus the answers written.
     fn run(&self, file: &[u8], buffer: &mut [u8]) -> u64 {
-        let Some(answers) = self.answers(file) else {
+        self.lay(self.answers(file).as_deref(), buffer)
+    }
+
+    /// The same, once the answers are known.
+    fn lay(&self, answers: Option<&[Answer]>, buffer: &mut [u8]) -> u64 {
+        let Some(answers) = answers else {
             return 11 << 16;
         };
-        if !self.fits(&answers, buffer.len()) {
+        if !self.fits(answers, buffer.len()) {
             return 12 << 16;
         }
-        for (place, answer) in buffer.chunks_exact_mut(ANSWER_BYTES).zip(&answers) {
+        for (place, answer) in buffer.chunks_exact_mut(ANSWER_BYTES).zip(answers) {
             place.copy_from_slice(&answer.bytes());
         }
         let bad = answers.last().is_some_and(|a| a.number == 10);

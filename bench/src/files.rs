@@ -1,0 +1,1 @@
+//! Step files to measure.
