@@ -21,6 +21,10 @@ impl Right {
 
 pub trait Door {
     fn name(&self) -> &str;
+    /// Whether it takes this one of many files.
+    fn wants(&self, _turn: u64) -> bool {
+        true
+    }
     /// What is wrong, if anything. `turn` varies the buffers.
     fn check(&mut self, file: &[u8], right: &mut Right, turn: u64) -> Option<String>;
     /// The answers as they come through the door, for a report.
@@ -30,8 +34,8 @@ pub trait Door {
 /// A program that reads the file from standard input.
 pub struct Program {
     path: String,
-    /// Only each so many-th file: a process takes about a millisecond.
-    pub every: u64,
+    /// Of many files only each so many-th: a process takes about a millisecond.
+    every: u64,
 }
 
 impl Program {
@@ -59,10 +63,11 @@ impl Door for Program {
         &self.path
     }
 
-    fn check(&mut self, file: &[u8], _: &mut Right, turn: u64) -> Option<String> {
-        if turn % self.every != 0 {
-            return None;
-        }
+    fn wants(&self, turn: u64) -> bool {
+        turn % self.every == 0
+    }
+
+    fn check(&mut self, file: &[u8], _: &mut Right, _: u64) -> Option<String> {
         match self.run(file) {
             Ok(text) => (text != Published.print(file)).then(|| "it prints something else".to_string()),
             Err(e) => Some(e),

@@ -31,12 +31,22 @@ impl Judge {
         Judge { doors, counts: [0; 13], files: 0, steps: 0, shrinks: true, started: now, said: now }
     }
 
-    /// `what` names the file in a report.
+    /// A file that goes through every door. `what` names it in a report.
     pub fn file(&mut self, what: &str, file: &[u8]) -> Result<(), Difference> {
+        self.through(what, file, |_| true)
+    }
+
+    /// One of many files: each door says whether it takes this one.
+    pub fn one_of_many(&mut self, what: &str, file: &[u8]) -> Result<(), Difference> {
+        let turn = self.files;
+        self.through(what, file, |door| door.wants(turn))
+    }
+
+    fn through(&mut self, what: &str, file: &[u8], takes: impl Fn(&dyn Door) -> bool) -> Result<(), Difference> {
         let turn = self.files;
         let mut right = Right::of(file);
         let mut wrong = None;
-        for (at, door) in self.doors.iter_mut().enumerate() {
+        for (at, door) in self.doors.iter_mut().enumerate().filter(|(_, door)| takes(door.as_ref())) {
             if let Some(said) = door.check(file, &mut right, turn) {
                 wrong = Some((at, said));
                 break;

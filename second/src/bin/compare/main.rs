@@ -41,7 +41,7 @@ fn random(judge: &mut Judge, options: &Options) -> Result<(), Difference> {
     let mut at = options.from;
     while end.map_or(at < options.from + options.files, |end| judge.seconds() < end) {
         let (profile, file) = profiles::file(options.seed, at, options.profile.as_deref());
-        judge.file(&format!("seed {}, file {at} ({profile})", options.seed), &file)?;
+        judge.one_of_many(&format!("seed {}, file {at} ({profile})", options.seed), &file)?;
         at += 1;
     }
     Ok(())

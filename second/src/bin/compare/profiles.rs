@@ -84,12 +84,14 @@ fn steps(w: &mut Writer, count: usize, mix: &Mix) {
 
 /// Few items and many concurrent transactions.
 fn crowd(w: &mut Writer) {
-    let count = w.chance.between(1, 5);
+    let count = w.chance.between(1, 8);
     w.open(count);
     let active = w.chance.pick(&[2, 3, 4, 6, 10, 32]);
-    let length = w.chance.between(10, 120);
-    let write = w.chance.between(4, 30);
-    steps(w, length, &Mix { active, begin: 14, read: 30, write, commit: 16, abort: 2, latest: 2, odd: 1 });
+    let length = w.chance.between(10, 150);
+    let write = w.chance.pick(&[8, 15, 25]);
+    let odd = w.chance.pick(&[0, 0, 1]);
+    // Few commits of their own: most come when a begin finds the crowd complete.
+    steps(w, length, &Mix { active, begin: 22, read: 40, write, commit: 5, abort: 1, latest: 1, odd });
 }
 
 /// Long readers beside short writers; a reader may write at its end.
