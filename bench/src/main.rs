@@ -17,7 +17,8 @@ ours needs PARLOUR_LIB, the archive with parlour_run, when this is built";
 #[no_mangle]
 #[inline(never)]
 pub unsafe extern "C" fn rust_run(steps: *const u8, steps_len: usize, answers: *mut u8, answers_len: usize) -> u64 {
-    let (steps, answers) = (std::slice::from_raw_parts(steps, steps_len), std::slice::from_raw_parts_mut(answers, answers_len));
+    let (steps, answers) =
+        (std::slice::from_raw_parts(steps, steps_len), std::slice::from_raw_parts_mut(answers, answers_len));
     bench::run(steps, answers)
 }
 

@@ -43,7 +43,8 @@ const COUNTS: &str = "open 0 = 9 0\n begin = 1 0\n open 257 = 9 0\n begin = 1 0\
     open 1 = 0 0\n begin = 0 1\n read 1 0 = 0 0\n read 1 1 = 2 0\n
     open 256 = 0 0\n begin = 0 1\n read 1 255 = 0 0\n read 1 256 = 2 0";
 
-const CLOSED: &str = "begin = 1 0\n read 1 0 = 1 0\n write 1 0 5 = 1 0\n commit 1 = 1 0\n abort 1 = 1 0\n latest 0 = 1 0";
+const CLOSED: &str =
+    "begin = 1 0\n read 1 0 = 1 0\n write 1 0 5 = 1 0\n commit 1 = 1 0\n abort 1 = 1 0\n latest 0 = 1 0";
 
 // A refused open leaves everything as it was; an accepted one replaces everything.
 const OPENINGS: &str = "open 2 = 0 0\n begin = 0 1\n write 1 0 7 = 0 0\n commit 1 = 0 2\n begin = 0 2\n
@@ -55,12 +56,14 @@ const SEVERAL: &str = "open 2 = 0 0\n read 1 2 = 2 0\n read 1 1 = 3 0\n write 0 
     commit 0 = 3 0\n abort 1 = 3 0\n begin = 0 1\n abort 1 = 0 0\n abort 1 = 3 0\n commit 1 = 3 0";
 
 // T reads its own write, which makes no record; an equal value is a write; aborted transactions leave nothing.
-const OWN: &str = "open 2 = 0 0\n begin = 0 1\n write 1 0 5 = 0 0\n read 1 0 = 0 5\n write 1 0 6 = 0 0\n read 1 0 = 0 6\n
+const OWN: &str =
+    "open 2 = 0 0\n begin = 0 1\n write 1 0 5 = 0 0\n read 1 0 = 0 5\n write 1 0 6 = 0 0\n read 1 0 = 0 6\n
     latest 0 = 0 0\n begin = 0 2\n write 2 0 0 = 0 0\n commit 1 = 0 3\n commit 2 = 7 0\n
     begin = 0 3\n write 3 1 9 = 0 0\n abort 3 = 0 0\n latest 1 = 0 0\n latest 0 = 0 6";
 
 // A read sees no commit made after its start.
-const SNAPSHOT: &str = "open 2 = 0 0\n begin = 0 1\n begin = 0 2\n write 2 0 5 = 0 0\n commit 2 = 0 3\n read 1 0 = 0 0\n
+const SNAPSHOT: &str =
+    "open 2 = 0 0\n begin = 0 1\n begin = 0 2\n write 2 0 5 = 0 0\n commit 2 = 0 3\n read 1 0 = 0 0\n
     latest 0 = 0 5\n begin = 0 3\n read 3 0 = 0 5\n commit 1 = 0 5\n commit 3 = 0 6";
 
 // 7 and 8 end the transaction and take no moment.
@@ -69,7 +72,8 @@ const ENDED: &str = "open 2 = 0 0\n begin = 0 1\n begin = 0 2\n begin = 0 3\n re
     commit 3 = 8 0\n read 3 0 = 3 0\n begin = 0 4\n read 4 1 = 0 0\n commit 4 = 0 6";
 
 // 2 to 3 only because 3 replaces what 2 wrote; 3 to 1 and 1 to 2 by reads overwritten.
-const REPLACED: &str = "open 3 = 0 0\n begin = 0 1\n begin = 0 2\n write 2 0 1 = 0 0\n write 2 1 1 = 0 0\n commit 2 = 0 3\n
+const REPLACED: &str =
+    "open 3 = 0 0\n begin = 0 1\n begin = 0 2\n write 2 0 1 = 0 0\n write 2 1 1 = 0 0\n commit 2 = 0 3\n
     begin = 0 3\n write 3 0 2 = 0 0\n read 3 2 = 0 0\n commit 3 = 0 5\n
     read 1 1 = 0 0\n write 1 2 3 = 0 0\n commit 1 = 8 0";
 
@@ -107,7 +111,8 @@ fn spent_rows() -> String {
 fn pinned_rows() -> String {
     let mut text = String::from("open 2 = 0 0\n begin = 0 1\n");
     for number in 2..=32u32 {
-        text += &format!("begin = 0 {number}\n write {number} 0 {number} = 0 0\n commit {number} = 0 {}\n", 2 * number - 1);
+        text +=
+            &format!("begin = 0 {number}\n write {number} 0 {number} = 0 0\n commit {number} = 0 {}\n", 2 * number - 1);
     }
     text + "begin = 5 0\n abort 1 = 0 0\n begin = 0 33\n begin = 0 34\n read 33 0 = 0 32"
 }
@@ -123,11 +128,29 @@ fn own_records() -> String {
 
 pub fn all() -> Vec<Case> {
     let texts = [
-        ("P1", P1.into()), ("P2", P2.into()), ("P3", P3.into()), ("P4", P4.into()), ("P5", P5.into()), ("P6", P6.into()),
-        ("P7", P7.into()), ("P8", P8.into()), ("rows", rows()), ("records", records()), ("spent rows", spent_rows()),
-        ("counts", COUNTS.into()), ("closed", CLOSED.into()), ("openings", OPENINGS.into()), ("several", SEVERAL.into()),
-        ("own", OWN.into()), ("unknown kind", UNKNOWN.into()), ("cut body", CUT.into()), ("empty", String::new()),
-        ("snapshot", SNAPSHOT.into()), ("ended", ENDED.into()), ("replaced", REPLACED.into()), ("pinned rows", pinned_rows()),
+        ("P1", P1.into()),
+        ("P2", P2.into()),
+        ("P3", P3.into()),
+        ("P4", P4.into()),
+        ("P5", P5.into()),
+        ("P6", P6.into()),
+        ("P7", P7.into()),
+        ("P8", P8.into()),
+        ("rows", rows()),
+        ("records", records()),
+        ("spent rows", spent_rows()),
+        ("counts", COUNTS.into()),
+        ("closed", CLOSED.into()),
+        ("openings", OPENINGS.into()),
+        ("several", SEVERAL.into()),
+        ("own", OWN.into()),
+        ("unknown kind", UNKNOWN.into()),
+        ("cut body", CUT.into()),
+        ("empty", String::new()),
+        ("snapshot", SNAPSHOT.into()),
+        ("ended", ENDED.into()),
+        ("replaced", REPLACED.into()),
+        ("pinned rows", pinned_rows()),
         ("own records", own_records()),
     ];
     let mut cases = Vec::new();

@@ -71,7 +71,13 @@ pub trait Rules {
         }
         let number = h.transactions.len() as Number + 1;
         let start = self.next_moment(h);
-        h.transactions.push(Transaction { number, start, ending: Ending::Active, reads: Vec::new(), writes: Vec::new() });
+        h.transactions.push(Transaction {
+            number,
+            start,
+            ending: Ending::Active,
+            reads: Vec::new(),
+            writes: Vec::new(),
+        });
         h.spent.push(false);
         Answer::accepted(u32::from(number))
     }

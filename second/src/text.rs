@@ -73,7 +73,8 @@ pub fn parse_case(text: &str) -> Result<(Vec<u8>, Vec<Answer>), String> {
         let said = |e: String| format!("line {}: {e}", at + 1);
         let (step, answer) = line.split_once('=').ok_or_else(|| said("no '='".into()))?;
         let mut words = answer.split_whitespace();
-        answers.push(Answer { number: number(words.next()).map_err(said)?, value: number(words.next()).map_err(said)? });
+        answers
+            .push(Answer { number: number(words.next()).map_err(said)?, value: number(words.next()).map_err(said)? });
         file.extend(parse_step(step).map_err(said)?);
     }
     Ok((file, answers))

@@ -52,7 +52,13 @@ fn files_above_8192_bytes_get_11() {
 fn number_65535_is_the_last() {
     let mut h = History::opened(1);
     for number in 1..=65534 {
-        h.transactions.push(Transaction { number, start: u32::from(number), ending: Ending::Aborted, reads: vec![], writes: vec![] });
+        h.transactions.push(Transaction {
+            number,
+            start: u32::from(number),
+            ending: Ending::Aborted,
+            reads: vec![],
+            writes: vec![],
+        });
         h.spent.push(false);
     }
     assert_eq!(Published.step(&mut h, Step::Begin), Answer { number: 0, value: 65535 });

@@ -47,13 +47,17 @@ impl Program {
         let mut command = Command::new(&self.path);
         command.stdin(Stdio::piped()).stdout(Stdio::piped()).stderr(Stdio::piped());
         let mut child = command.spawn().map_err(|e| format!("{} does not start: {e}", self.path))?;
-        // A pipe holds more than any of these files, so this does not wait. A program that ends early is judged by its output.
+        // A program that ends before it has read all is judged by its output.
         let _ = child.stdin.take().map(|mut input| input.write_all(file));
         let output = child.wait_with_output().map_err(|e| e.to_string())?;
         let text = String::from_utf8_lossy(&output.stdout).into_owned();
         match output.status.success() && output.stderr.is_empty() {
             true => Ok(text),
-            false => Err(format!("it ended with {}, and on standard error: {}", output.status, String::from_utf8_lossy(&output.stderr))),
+            false => Err(format!(
+                "it ended with {}, and on standard error: {}",
+                output.status,
+                String::from_utf8_lossy(&output.stderr)
+            )),
         }
     }
 }
@@ -64,7 +68,7 @@ impl Door for Program {
     }
 
     fn wants(&self, turn: u64) -> bool {
-        turn % self.every == 0
+        turn.is_multiple_of(self.every)
     }
 
     fn check(&mut self, file: &[u8], _: &mut Right, _: u64) -> Option<String> {
@@ -134,7 +138,11 @@ impl<F: FnMut(&[u8], &mut [u8]) -> u64> Door for Library<F> {
         let result = (self.run)(file, &mut buffer);
         let answers = buffer.chunks_exact(ANSWER_BYTES).take(result as usize & 0xFFFF);
         let lines = answers.map(|a| format!("{}\n", Answer::from_bytes(a)));
-        if result >> 16 == 11 { "11 0\n".to_string() } else { lines.collect() }
+        if result >> 16 == 11 {
+            "11 0\n".to_string()
+        } else {
+            lines.collect()
+        }
     }
 }
 
@@ -150,7 +158,9 @@ pub fn parlour() -> Option<Box<dyn Door>> {
         fn parlour_run(steps: *const u8, steps_len: usize, answers: *mut u8, answers_len: usize) -> u64;
     }
     // Both slices are valid for their lengths while the call lasts, and it keeps neither.
-    let run = |file: &[u8], buffer: &mut [u8]| unsafe { parlour_run(file.as_ptr(), file.len(), buffer.as_mut_ptr(), buffer.len()) };
+    let run = |file: &[u8], buffer: &mut [u8]| unsafe {
+        parlour_run(file.as_ptr(), file.len(), buffer.as_mut_ptr(), buffer.len())
+    };
     Some(Box::new(Library { title: "parlour_run".to_string(), run }))
 }
 

@@ -20,6 +20,10 @@ fn cases(judge: &mut Judge, files: &[String]) -> Result<(), Difference> {
     for case in cases::all() {
         judge.file(&format!("case {}", case.name), &case.file)?;
     }
+    // Begins alone, at the size limit, one byte above it, and more than a pipe holds.
+    for size in [8192, 8193, 100_000] {
+        judge.file(&format!("case {size} bytes"), &vec![1; size])?;
+    }
     for path in files {
         let bytes = std::fs::read(path).unwrap_or_else(|e| options::refuse(&format!("{path}: {e}")));
         judge.file(path, &bytes)?;

@@ -90,6 +90,9 @@ impl Options {
         let mut doors = vec![doors::bench()];
         doors.extend(doors::parlour());
         if let Some(path) = &self.program {
+            if !std::path::Path::new(path).is_file() {
+                refuse(&format!("no program {path}"));
+            }
             doors.push(Box::new(Program::new(path, self.every)));
         }
         doors

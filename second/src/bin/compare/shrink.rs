@@ -1,7 +1,7 @@
 //! The smallest file found on which a door still differs, by taking steps away.
 
-use second::rules::{Published, Rules};
 use second::history::History;
+use second::rules::{Published, Rules};
 use second::steps::{join, split, Number, Step};
 
 pub fn smallest(file: &[u8], differs: &mut dyn FnMut(&[u8]) -> bool) -> Vec<u8> {
@@ -34,8 +34,8 @@ pub fn smallest(file: &[u8], differs: &mut dyn FnMut(&[u8]) -> bool) -> Vec<u8> 
         while at > 0 {
             at -= 1;
             let less = without_transaction(&steps, at);
-            if less.is_some() && differs(&whole(less.as_deref().unwrap_or(&[]), &rest)) {
-                steps = less.unwrap_or_default();
+            if let Some(less) = less.filter(|l| differs(&whole(l, &rest))) {
+                steps = less;
                 at = at.min(steps.len());
             }
         }
@@ -68,4 +68,44 @@ fn without_transaction(steps: &[Step], at: usize) -> Option<Vec<Step>> {
         less.push(step);
     }
     Some(less)
+}
+
+#[cfg(test)]
+mod tests {
+    use super::*;
+    use second::cases;
+
+    fn answered(file: &[u8], number: u8) -> bool {
+        Published.answers(file).is_some_and(|all| all.iter().any(|a| a.number == number))
+    }
+
+    fn lines(file: &[u8]) -> Vec<String> {
+        split(file).0.iter().map(Step::to_string).collect()
+    }
+
+    /// Of P8 only what makes an answer 7 is left.
+    #[test]
+    fn steps_that_do_not_matter_go() {
+        let file = &cases::all()[7].file;
+        let small = smallest(file, &mut |f| answered(f, 7));
+        assert_eq!(lines(&small), ["open 2", "begin", "begin", "write 1 0 5", "write 2 0 6", "commit 1", "commit 2"]);
+    }
+
+    /// Transactions 1 and 3 go, and the others are numbered anew.
+    #[test]
+    fn transactions_that_do_not_matter_go() {
+        let mut file = vec![0, 2, 0, 1, 1, 1, 1];
+        for by in [1, 2, 3, 4] {
+            file.extend(join(&[Step::Write { by, item: by % 2, value: 9 }]));
+        }
+        file.extend(join(&[Step::Commit { by: 2 }, Step::Commit { by: 4 }]));
+        let small = smallest(&file, &mut |f| answered(f, 7));
+        assert_eq!(lines(&small), ["open 2", "begin", "begin", "write 1 0 9", "write 2 0 9", "commit 1", "commit 2"]);
+    }
+
+    #[test]
+    fn a_bad_step_stays_where_it_matters() {
+        let small = smallest(&[0, 2, 0, 1, 9, 9, 9], &mut |f| answered(f, 10));
+        assert_eq!(small, [9]);
+    }
 }

@@ -6,6 +6,8 @@ use crate::options::Options;
 use crate::{cases, random, slips, small, variants};
 use second::rules::Rules;
 
+type Try<'a> = dyn Fn(&mut Judge) -> Result<(), Difference> + 'a;
+
 fn judge(name: &str, rules: &'static dyn Rules, shrinks: bool) -> Judge {
     let run = |file: &[u8], buffer: &mut [u8]| rules.run(file, buffer);
     let door = Library { title: format!("wrong: {name}"), run };
@@ -24,8 +26,7 @@ pub fn all_caught(options: &Options) -> bool {
         }
         // The list lives as long as the program.
         let rules: &'static dyn Rules = Box::leak(rules);
-        let tries: [&dyn Fn(&mut Judge) -> Result<(), Difference>; 3] =
-            [&|j| cases(j, &[]), &|j| random(j, options), &|j| small(j, false)];
+        let tries: [&Try; 3] = [&|j| cases(j, &[]), &|j| random(j, options), &|j| small(j, false)];
         let mut found: Vec<Difference> = Vec::new();
         for attempt in tries {
             if options.all || found.is_empty() {
