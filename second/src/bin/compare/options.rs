@@ -10,7 +10,7 @@ usage: compare gate [FILE..]       all of the following, with the FILEs as furth
        compare random [--seed N] [--from N] [--files N | --seconds N] [--profile NAME]
        compare variants [--all] [--show] [NAME]   each wrong variant of the second program must be caught
        compare show FILE..         step files as hex and as readable steps with their answers
-doors: --program PATH [--every N]  a program that reads the step file from standard input (each N-th random file)
+doors: --program PATH [--every N]  a program that reads the step file from standard input (each N-th random file, by default each tenth)
        bench and, if PARLOUR_LIB named its archive when this was built, parlour_run are always compared
 With a difference the exit status is 1, and the smallest file found is printed.";
 
@@ -56,7 +56,7 @@ pub fn parse() -> Options {
         all: false,
         show: false,
         program: None,
-        every: 1,
+        every: 10,
     };
     while let Some(word) = words.next() {
         let mut value = || words.next().unwrap_or_else(|| refuse(&format!("{word} needs a word after it")));

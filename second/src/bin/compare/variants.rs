@@ -128,6 +128,11 @@ variants! { rings:
             cycle(list.len(), &dependencies(&list))
         }
     }
+    SpentByAge "rows and records go by age, though the ring test still knows all" {
+        fn spent(&self, h: &History) -> Vec<bool> {
+            DroppedByAge.spent(h)
+        }
+    }
     SpentBesideReaders "active ones that wrote nothing delay no spending" {
         fn spent(&self, h: &History) -> Vec<bool> {
             let mut fewer = h.clone();
