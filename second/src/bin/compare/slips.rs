@@ -124,7 +124,7 @@ variants! { calls:
     CommitSpendsNone "nothing is spent after a commit" {
         fn after_commit(&self, _: &mut History) {}
     }
-    AbortInstalls "an aborted transaction's writes count" {
+    AbortInstalls "an abort installs the writes" {
         fn abort(&self, h: &mut History, by: Number) -> Answer {
             let kept = h.find_active(by).cloned();
             let answer = Published.abort(h, by);

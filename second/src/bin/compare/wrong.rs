@@ -35,6 +35,11 @@ pub fn all_caught(options: &Options) -> bool {
         }
         let by: Vec<&str> = found.iter().map(|d| d.what.as_str()).collect();
         println!("{name}\n    {}", by.join("; "));
+        if options.all {
+            let catches = |c: &second::cases::Case| judge(name, rules, false).file(c.name, &c.file).is_err();
+            let all: Vec<&str> = second::cases::all().iter().filter(|c| catches(c)).map(|c| c.name).collect();
+            println!("    cases that catch it: {}", all.join(", "));
+        }
         match found.first() {
             Some(difference) if options.show => println!("{}", difference.report),
             Some(_) => {}
