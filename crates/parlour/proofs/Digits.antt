@@ -1,12 +1,12 @@
 -- The fewest digits of a number are its decimal text. Assumes nothing.
-use Prim.Native.Nat.{ℕ, zero, suc, _+_, _*_, _-_, _/_, _%_, _^_, _<_, _≤_}
+use Prim.Native.Nat.{ℕ, zero, suc, _+_, _-_, _/_, _%_, _^_, _<_, _≤_}
 use native.Mathlib.Nat.{pow-le-pow-right, pow-succ'}
 use native.Mathlib.Omega.{arith}
 use mathlib.Core.Bool.{Bool, cond, false, true}
-use mathlib.Core.List.{List, [], _∷_, _++_}
+use mathlib.Core.List.{[], _∷_, _++_}
 use mathlib.Core.Logic.{_⊎_, inl, inr}
-use mathlib.Core.Path.{_≡_, _∙_, ap, refl, subst, sym}
-use lib.Dec.{leb, ltb}
+use mathlib.Core.Path.{_≡_, _∙_, ap, subst, sym}
+use lib.Dec.{leb}
 use borrow.Author.Tests.{le-ltb, leb-false, leb-true, lt-ltb}
 use Rattle.laws.proofs.Lists.{passed}
 use Rattle.io.specs.Digits.{Fewest, digits, glyph}

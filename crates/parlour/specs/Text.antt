@@ -5,7 +5,6 @@ use mathlib.Core.List.{List, [], _∷_, _++_}
 use lib.Dec.{ltb}
 use lib.ListN.{drop, getD, length}
 use Rattle.terms.specs.declared.Given.{Given}
-use Rattle.terms.specs.Words.{given}
 use Rattle.steps.specs.Answers.{answerBytes}
 use Rattle.steps.specs.Decoding.{field, stepsOf}
 use Rattle.runner.specs.Run.{answersTo}

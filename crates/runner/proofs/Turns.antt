@@ -5,21 +5,21 @@ use mathlib.Core.List.{List, [], _∷_, _++_, append-assoc, append-nil, map}
 use mathlib.Core.Logic.{inl}
 use mathlib.Core.Path.{_≡_, _∙_, ap, refl, subst, sym}
 use native.Mathlib.Omega.{arith}
-use lib.ListN.{drop, length, length-append, length-map}
+use lib.ListN.{drop, length, length-append}
 use Rattle.terms.specs.declared.Answer.{Answer}
 use Rattle.terms.specs.declared.Answer.the-variants.{Accepted, BadOpening, Beaten, ClosesRing, NotActive, NumbersUsedUp, RecordsFull, RowsFull, UnknownItem, UnsoundTables}
 use Rattle.terms.specs.declared.Given.{Given}
 use Rattle.terms.specs.declared.Step.{Step}
 use Rattle.terms.specs.Words.{given, paper}
 use Rattle.rules.specs.Lists.{all}
-use Rattle.rules.specs.Machine.{Call, Line, callOf, history, lines, run}
+use Rattle.rules.specs.Machine.{Call, Line, callOf, run}
 use Rattle.rules.specs.Public.{callOn, inRange, linesOn}
 use Rattle.rules.specs.Raw.{Raw, rawOf}
-use Rattle.rules.specs.State.{State, closed}
+use Rattle.rules.specs.State.{closed}
 use Rattle.laws.proofs.Lists.{and-left, and-right}
 use Rattle.steps.specs.declared.Decoded.the-variants.{Bad, Good}
 use Rattle.steps.specs.Answers.{answerAt, withAnswers}
-use Rattle.steps.specs.Decoding.{BadAt, Contents, Done, End, answersOf, contentsFrom, decoded, stepsOf}
+use Rattle.steps.specs.Decoding.{BadAt, Contents, Done, End, contentsFrom, decoded, stepsOf}
 use Rattle.steps.proofs.Puts.{length-with, put-next, put-start}
 use Rattle.steps.proofs.Unfold.{next-bad, next-done, next-good, next-inside, partAt}
 use Rattle.runner.specs.Ready.{Ready}

@@ -6,23 +6,11 @@ use borrow.Author.Needs.{needs}
 use Rattle.parlour.proofs.put_line.Statement.{statement}
 use Rattle.parlour.proofs.put_line.Tie as tie
 
-put-number-requires : tie.Need-put-number-requires
-put-number-requires c κs = search needs
-
-slice-write-text : tie.Need-slice-write-text
-slice-write-text c = search needs
-
-add-put-number : tie.Need-add-put-number
-add-put-number c = search needs
-
 put-number-requires-2 : tie.Need-put-number-requires-2
 put-number-requires-2 c κs = simp length-set (omega arith)
 
 slice-write-text-2 : tie.Need-slice-write-text-2
 slice-write-text-2 c = omega (arith, length-set (c .before .before .before .before .before .before .put-number .last .0) (c .before .before .before .before .before .before .put-number .result) 32)
-
-add-result : tie.Need-add-result
-add-result c = search needs
 
 same-length : tie.Need-same-length
 same-length c = simp length-set (omega (arith, length-set (c .before .before .before .before .before .before .put-number .last .0) (c .before .before .before .before .before .before .put-number .result) 32))
@@ -34,11 +22,11 @@ pub put-line-spec : {M : Type 1} → statement M
 put-line-spec =
     tie.close
     (tie.spec
-    put-number-requires
-    slice-write-text
-    add-put-number
+    (λ c κs. search needs)
+    (λ c. search needs)
+    (λ c. search needs)
     put-number-requires-2
     slice-write-text-2
-    add-result
+    (λ c. search needs)
     same-length
     returns)

@@ -23,23 +23,14 @@ mul-p c = omega (arith, c .before .before .before .before .pre .0)
 shared-slice-read-wide : tie.Need-shared-slice-read-wide Inv-loop μ-loop
 shared-slice-read-wide c = omega (arith, c .before .before .before .before .before .before .pre)
 
-wide-requires : tie.Need-wide-requires Inv-loop μ-loop
-wide-requires c κs = search needs
-
 add-four : tie.Need-add-four Inv-loop μ-loop
 add-four c = omega (arith, c .before .before .before .before .before .before .before .pre)
 
 four-requires : tie.Need-four-requires Inv-loop μ-loop
 four-requires c κs = omega (arith, c .before .before .before .before .before .before .before .pre)
 
-cast-put-line : tie.Need-cast-put-line Inv-loop μ-loop
-cast-put-line c = search needs
-
 put-line-requires : tie.Need-put-line-requires Inv-loop μ-loop
 put-line-requires c κs = omega (arith, c .before .before .before .before .before .before .before .before .pre, c .before .before .before .before .before .loop .inv .0 .room, c .before .before .before .before .before .loop .inv .1)
-
-add-i : tie.Need-add-i Inv-loop μ-loop
-add-i c = search needs
 
 loop-less : tie.Need-loop-less Inv-loop μ-loop
 loop-less c = omega arith
@@ -62,12 +53,12 @@ put-lines-spec =
     loop-holds
     mul-p
     shared-slice-read-wide
-    wide-requires
+    (λ c κs. search needs)
     add-four
     four-requires
-    cast-put-line
+    (λ c. search needs)
     put-line-requires
-    add-i
+    (λ c. search needs)
     loop-less
     loop-again
     same-length

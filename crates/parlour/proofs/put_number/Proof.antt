@@ -1,7 +1,6 @@
 -- `parlour::put_number` meets its contract: so far the first digits are copied. What is left of them falls. Assumes nothing.
 use Prim.Native.Nat.{_-_, _≤_}
 use native.Mathlib.Omega.{arith}
-use lib.ListN.{length}
 use borrow.Author.Needs.{needs}
 use Rattle.parlour.proofs.Digits.{fewest-few}
 use Rattle.parlour.proofs.Texts.{Copying, copy-next, copy-start, number-put}
@@ -14,9 +13,6 @@ Inv-loop text₀ at n digits k i₀ text i = Copying text₀ digits at i text ×
 abbrev μ-loop : tie.MeasureT-loop
 μ-loop text₀ at n digits k i₀ text i = k - i
 
-decimal-requires : tie.Need-decimal-requires Inv-loop μ-loop
-decimal-requires c κs = search needs
-
 loop-holds : tie.Need-loop-holds Inv-loop μ-loop
 loop-holds c = (copy-start _ _ _, omega arith)
 
@@ -28,9 +24,6 @@ add-text c = omega (arith, fewest-few (c .before .before .decimal .result) (c .b
 
 slice-write-text : tie.Need-slice-write-text Inv-loop μ-loop
 slice-write-text c = omega (arith, c .before .loop .inv .0 .long, fewest-few (c .before .before .decimal .result) (c .before .before .before .before .before .args .n) (omega arith) (c .before .before .decimal .ensures .1 .0), c .before .before .before .before .before .pre)
-
-add-i : tie.Need-add-i Inv-loop μ-loop
-add-i c = search needs
 
 loop-less : tie.Need-loop-less Inv-loop μ-loop
 loop-less c = omega arith
@@ -53,12 +46,12 @@ put-number-spec =
     (tie.spec
     Inv-loop
     μ-loop
-    decimal-requires
+    (λ c κs. search needs)
     loop-holds
     array-read-text
     add-text
     slice-write-text
-    add-i
+    (λ c. search needs)
     loop-less
     loop-again
     add-result

@@ -8,29 +8,11 @@ use borrow.Author.Needs.{needs}
 use Rattle.parlour.proofs.report.Statement.{statement}
 use Rattle.parlour.proofs.report.Tie as tie
 
-slice-aggregate-run : tie.Need-slice-aggregate-run
-slice-aggregate-run c = search needs
-
-run-requires : tie.Need-run-requires
-run-requires c κs = search needs
-
-put-line-requires : tie.Need-put-line-requires
-put-line-requires c κs = search needs
-
-same-length : tie.Need-same-length
-same-length c = search needs
-
 returns : tie.Need-returns
 returns c = (counted _ _ (omega arith), from-start (c .before .before .before .before .before .before .before .before .before .before .args .text .now) (c .before .before .put-line .ensures .1) ∙ shows-11 _ _ (c .before .before .before .before .before .before .run .ensures) (length-replicate {A = ℕ} 40960 0) (c .before .before .before .before .if1 .taken))
 
-slice-aggregate-put-lines : tie.Need-slice-aggregate-put-lines
-slice-aggregate-put-lines c = search needs
-
 put-lines-requires : tie.Need-put-lines-requires
 put-lines-requires c κs = ((shows-lines _ _ (c .before .before .before .before .run .ensures) (length-replicate {A = ℕ} 40960 0) (c .before .before .if1 .left)) .0, omega (arith, (shows-lines _ _ (c .before .before .before .before .run .ensures) (length-replicate {A = ℕ} 40960 0) (c .before .before .if1 .left)) .0), omega arith)
-
-same-length-2 : tie.Need-same-length-2
-same-length-2 c = search needs
 
 returns-2 : tie.Need-returns-2
 returns-2 c = (counted _ _ (omega arith), c .before .before .put-lines .ensures .1 ∙ (shows-lines _ _ (c .before .before .before .before .before .before .before .run .ensures) (length-replicate {A = ℕ} 40960 0) (c .before .before .before .before .before .if1 .left)) .1)
@@ -39,12 +21,12 @@ pub report-spec : {M : Type 1} → statement M
 report-spec =
     tie.close
     (tie.spec
-    slice-aggregate-run
-    run-requires
-    put-line-requires
-    same-length
+    (λ c. search needs)
+    (λ c κs. search needs)
+    (λ c κs. search needs)
+    (λ c. search needs)
     returns
-    slice-aggregate-put-lines
+    (λ c. search needs)
     put-lines-requires
-    same-length-2
+    (λ c. search needs)
     returns-2)
