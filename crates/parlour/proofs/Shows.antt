@@ -11,21 +11,25 @@ use lib.Seq.{length-take-le}
 use borrow.Author.Tests.{ltb-false, ltb-true}
 use Rattle.io.specs.Counts.{Counts}
 use Rattle.terms.specs.declared.Given.{Given}
-use Rattle.laws.proofs.Lists.{passed}
+use Rattle.rules.specs.Lists.{all}
+use Rattle.laws.proofs.Lists.{and-left, and-right, passed}
 use Rattle.steps.specs.Answers.{answerBytes, encoded, withAnswers}
 use Rattle.steps.specs.Decoding.{BadAt, Done, End, field, number, stepsOf}
 use Rattle.steps.specs.Format.{le}
 use Rattle.steps.proofs.Counts.{answers-few}
-use Rattle.runner.specs.Run.{answersTo, numberOf, runOn, written}
+use Rattle.steps.proofs.Numbers.{number-le}
+use Rattle.runner.specs.Run.{answersTo, narrow, numberOf, runOn, written}
 use Rattle.runner.proofs.Ranges.{answers-many}
 use Rattle.runner.proofs.Returns.{all-written, too-long}
 use Rattle.parlour.specs.Text.{line, linesIn, shown, textOf}
 
 -- the lines of answers that stand in a buffer
-lines-encoded : (gs : List Given) (more : List ℕ) → linesIn (length gs) (encoded gs ++ more) ≡ textOf gs
+lines-encoded : (gs : List Given) (more : List ℕ) → all narrow gs ≡ true → linesIn (length gs) (encoded gs ++ more) ≡ textOf gs
 unfolding linesIn encoded textOf answerBytes le field
-lines-encoded [] more = refl
-lines-encoded (g ∷ gs) more = ap (λ (l : List ℕ). line (g .number) (field 1 4 (answerBytes g)) ++ l) (lines-encoded gs more)
+lines-encoded [] more h = refl
+lines-encoded (g ∷ gs) more h =
+    let v = number-le 4 (g .value) (ltb-true (g .value) 4294967296 (and-left (narrow g) _ h)) in
+    λ j. line (g .number) (v j) ++ lines-encoded gs more (and-right (narrow g) _ h) j
 
 number-cases : (e : End) → (numberOf e ≡ 0) ⊎ (numberOf e ≡ 10)
 number-cases Done = inl refl
@@ -37,7 +41,7 @@ module _ (file out : List ℕ) where
   shown-by b e = ap (λ (x : Bool). cond x (line 11 0) (textOf (answersTo 32 256 (stepsOf file)))) e
 
   -- what a run returns and leaves
-  module _ {r : ℕ} {out′ : List ℕ} (e : (r, out′) ≡ runOn 32 256 file out) (l : length out ≡ 40960) where
+  module _ {r : ℕ} {out′ : List ℕ} (e : (r, out′) ≡ runOn 32 256 file out) (s : r < 65536 * 11 → all narrow (answersTo 32 256 (stepsOf file)) ≡ true) (l : length out ≡ 40960) where
     gs : List Given
     gs = answersTo 32 256 (stepsOf file)
 
@@ -53,7 +57,7 @@ module _ (file out : List ℕ) where
         record {
           short = ⊎-elim (λ u. omega (arith, count .0)) (λ u. omega (arith, count .0)) c;
           few = omega (arith, count .1);
-          text = (λ j. linesIn (count .1 j) (o j)) ∙ lines-encoded gs (drop (5 * length gs) out) ∙ sym (shown-by false f);
+          text = (λ j. linesIn (count .1 j) (o j)) ∙ lines-encoded gs (drop (5 * length gs) out) (s (⊎-elim (λ u. omega arith) (λ u. omega arith) c)) ∙ sym (shown-by false f);
         }
 
     fits : ltb 8192 (length file) ≡ false → Fits

@@ -5,7 +5,6 @@ use mathlib.Core.List.{List, [], _∷_, _++_}
 use lib.Dec.{ltb}
 use lib.ListN.{drop, getD, length}
 use Rattle.terms.specs.declared.Given.{Given}
-use Rattle.steps.specs.Answers.{answerBytes}
 use Rattle.steps.specs.Decoding.{field, stepsOf}
 use Rattle.runner.specs.Run.{answersTo}
 
@@ -27,10 +26,10 @@ unfoldable pub linesIn : ℕ → List ℕ → List ℕ
 linesIn zero bytes = []
 linesIn (suc n) bytes = line (getD bytes 0 0) (field 1 4 bytes) ++ linesIn n (drop 5 bytes)
 
--- the lines of some answers, each as its five bytes hold it
+-- the lines of some answers
 unfoldable pub textOf : List Given → List ℕ
 textOf [] = []
-textOf (g ∷ gs) = line (g .number) (field 1 4 (answerBytes g)) ++ textOf gs
+textOf (g ∷ gs) = line (g .number) (g .value) ++ textOf gs
 
 -- what is printed for a file: "For 11 it prints `11 0`."
 unfoldable pub shown : List ℕ → List ℕ

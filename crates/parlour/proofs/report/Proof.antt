@@ -9,13 +9,13 @@ use Rattle.parlour.proofs.report.Statement.{statement}
 use Rattle.parlour.proofs.report.Tie as tie
 
 returns : tie.Need-returns
-returns c = (counted _ _ (omega arith), from-start (c .before .before .before .before .before .before .before .before .before .before .args .text .now) (c .before .before .put-line .ensures .1) ∙ shows-11 _ _ (c .before .before .before .before .before .before .run .ensures) (length-replicate {A = ℕ} 40960 0) (c .before .before .before .before .if1 .taken))
+returns c = (counted _ _ (omega arith), from-start (c .before .before .before .before .before .before .before .before .before .before .args .text .now) (c .before .before .put-line .ensures .1) ∙ shows-11 _ _ (c .before .before .before .before .before .before .run .ensures .0) (c .before .before .before .before .before .before .run .ensures .1) (length-replicate {A = ℕ} 40960 0) (c .before .before .before .before .if1 .taken))
 
 put-lines-requires : tie.Need-put-lines-requires
-put-lines-requires c κs = ((shows-lines _ _ (c .before .before .before .before .run .ensures) (length-replicate {A = ℕ} 40960 0) (c .before .before .if1 .left)) .0, omega (arith, (shows-lines _ _ (c .before .before .before .before .run .ensures) (length-replicate {A = ℕ} 40960 0) (c .before .before .if1 .left)) .0), omega arith)
+put-lines-requires c κs = ((shows-lines _ _ (c .before .before .before .before .run .ensures .0) (c .before .before .before .before .run .ensures .1) (length-replicate {A = ℕ} 40960 0) (c .before .before .if1 .left)) .0, omega (arith, (shows-lines _ _ (c .before .before .before .before .run .ensures .0) (c .before .before .before .before .run .ensures .1) (length-replicate {A = ℕ} 40960 0) (c .before .before .if1 .left)) .0), omega arith)
 
 returns-2 : tie.Need-returns-2
-returns-2 c = (counted _ _ (omega arith), c .before .before .put-lines .ensures .1 ∙ (shows-lines _ _ (c .before .before .before .before .before .before .before .run .ensures) (length-replicate {A = ℕ} 40960 0) (c .before .before .before .before .before .if1 .left)) .1)
+returns-2 c = (counted _ _ (omega arith), c .before .before .put-lines .ensures .1 ∙ (shows-lines _ _ (c .before .before .before .before .before .before .before .run .ensures .0) (c .before .before .before .before .before .before .before .run .ensures .1) (length-replicate {A = ℕ} 40960 0) (c .before .before .before .before .before .if1 .left)) .1)
 
 pub report-spec : {M : Type 1} → statement M
 report-spec =
