@@ -1,7 +1,7 @@
 -- Calls from the closed tables, in which a run begins: what one does to them, that all tables of a run are closed or sound, and that the answers are the history
 -- machine's. Assumes nothing.
 use Prim.Native.Nat.{ℕ, _≤_}
-use mathlib.Core.Bool.{Bool, _&&_, false, true}
+use mathlib.Core.Bool.{false, true}
 use mathlib.Core.List.{List, [], _∷_}
 use mathlib.Core.Logic.{_⊎_, inl, inr}
 use mathlib.Core.Path.{_≡_, _∙_, ap, refl, subst, sym}

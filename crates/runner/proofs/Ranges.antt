@@ -1,7 +1,7 @@
 -- The steps of a file write no value above 4,294,967,295, and a file gives as many answers as it is counted to. Assumes nothing.
-use Prim.Native.Nat.{ℕ, _+_, _<_, suc}
+use Prim.Native.Nat.{ℕ, _<_, suc}
 use mathlib.Core.Bool.{_&&_, true}
-use mathlib.Core.List.{List, [], _∷_, _++_, map}
+use mathlib.Core.List.{List, [], _∷_, map}
 use mathlib.Core.Path.{_≡_, _∙_, ap, refl}
 use native.Mathlib.Omega.{arith}
 use lib.ListN.{getD, length, length-append, length-map}

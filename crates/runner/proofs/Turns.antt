@@ -5,25 +5,26 @@ use mathlib.Core.List.{List, [], _∷_, _++_, append-assoc, append-nil, map}
 use mathlib.Core.Logic.{inl}
 use mathlib.Core.Path.{_≡_, _∙_, ap, refl, subst, sym}
 use native.Mathlib.Omega.{arith}
-use lib.ListN.{drop, length, length-append, length-map}
+use lib.ListN.{drop, length, length-append}
 use Rattle.terms.specs.declared.Answer.{Answer}
 use Rattle.terms.specs.declared.Answer.the-variants.{Accepted, BadOpening, Beaten, ClosesRing, NotActive, NumbersUsedUp, RecordsFull, RowsFull, UnknownItem, UnsoundTables}
 use Rattle.terms.specs.declared.Given.{Given}
 use Rattle.terms.specs.declared.Step.{Step}
 use Rattle.terms.specs.Words.{given, paper}
 use Rattle.rules.specs.Lists.{all}
-use Rattle.rules.specs.Machine.{Call, Line, callOf, history, lines, run}
+use Rattle.rules.specs.Machine.{Call, Line, callOf, run}
 use Rattle.rules.specs.Public.{callOn, inRange, linesOn}
 use Rattle.rules.specs.Raw.{Raw, rawOf}
-use Rattle.rules.specs.State.{State, closed}
-use Rattle.laws.proofs.Lists.{and-left, and-right}
+use Rattle.rules.specs.State.{closed}
+use borrow.Author.Tests.{lt-ltb}
+use Rattle.laws.proofs.Lists.{and-both, and-left, and-right}
 use Rattle.steps.specs.declared.Decoded.the-variants.{Bad, Good}
 use Rattle.steps.specs.Answers.{answerAt, withAnswers}
-use Rattle.steps.specs.Decoding.{BadAt, Contents, Done, End, answersOf, contentsFrom, decoded, stepsOf}
+use Rattle.steps.specs.Decoding.{BadAt, Contents, Done, End, contentsFrom, decoded, stepsOf}
 use Rattle.steps.proofs.Puts.{length-with, put-next, put-start}
 use Rattle.steps.proofs.Unfold.{next-bad, next-done, next-good, next-inside, partAt}
 use Rattle.runner.specs.Ready.{Ready}
-use Rattle.runner.specs.Run.{answersTo, badAnswer, numberOf, written}
+use Rattle.runner.specs.Run.{answersTo, badAnswer, narrow, numberOf, written}
 use Rattle.runner.proofs.Closed.{closed-lines, ready-after}
 
 abbrev pub callsOf : Contents → List Call
@@ -52,6 +53,10 @@ givenOn w h = map (λ l. paper (l .1)) (linesOn 32 256 w (callsOf h)) ++ badAnsw
 abbrev pub restAt : List ℕ → ℕ → Contents
 restAt file at = contentsFrom at 0 (drop at file)
 
+all-more : (gs : List Given) (x : Given) → all narrow gs ≡ true → x .value < 4294967296 → all narrow (gs ++ x ∷ []) ≡ true
+all-more [] x h l = and-both (narrow x) true (lt-ltb (x .value) 4294967296 l) refl
+all-more (g ∷ gs) x h l = and-both (narrow g) _ (and-left (narrow g) _ h) (all-more gs x (and-right (narrow g) _ h) l)
+
 pub record Going (file out₀ out : List ℕ) (w : Raw) (at n : ℕ) : Type 0 where
   pub at-most : at ≤ length file
   pub few : n ≤ at
@@ -60,6 +65,7 @@ pub record Going (file out₀ out : List ℕ) (w : Raw) (at n : ℕ) : Type 0 wh
   pub ends : restAt file at .end ≡ stepsOf file .end
   pub sofar : List Given
   pub many : n ≡ length sofar
+  pub small : all narrow sofar ≡ true
   pub put : out ≡ withAnswers sofar out₀
   pub same : sofar ++ givenOn w (restAt file at) ≡ answersTo 32 256 (stepsOf file)
 
@@ -74,6 +80,7 @@ go-start file out w r e =
       ends = refl;
       sofar = [];
       many = refl;
+      small = refl;
       put = sym (put-start out);
       same = ap (λ (v : Raw). givenOn v (stepsOf file)) e
           ∙ ap (λ (ls : List Line). map (λ l. paper (l .1)) ls ++ badAnswer (stepsOf file .end)) (closed-lines (callsOf (stepsOf file)) r);
@@ -114,9 +121,9 @@ module _ {file out₀ out : List ℕ} {w : Raw} {at n : ℕ} (g : Going file out
     in-range = sym (ap (λ (h : Contents). all inRange (callsOf h)) (next-good file at e)) ∙ g .ranged
 
     -- a step is done and its answer written
-    pub go-next : (a : Answer) (w′ : Raw) {x : Given} (out′ : List ℕ) → (a, w′) ≡ callOn 32 256 (callOf s) w → x ≡ paper a → out′ ≡ answerAt (5 * n) x out
+    pub go-next : (a : Answer) (w′ : Raw) {x : Given} (out′ : List ℕ) → (a, w′) ≡ callOn 32 256 (callOf s) w → x ≡ paper a → x .value < 4294967296 → out′ ≡ answerAt (5 * n) x out
         → Going file out₀ out′ w′ (at + k) (n + 1)
-    go-next a w′ out′ c q p =
+    go-next a w′ {x} out′ c q v p =
         record {
           at-most = go-inside .1;
           few = omega (arith, g .few, go-inside .0);
@@ -125,6 +132,7 @@ module _ {file out₀ out : List ℕ} {w : Raw} {at n : ℕ} (g : Going file out
           ends = sym (ap (λ (h : Contents). h .end) (next-good file at e)) ∙ g .ends;
           sofar = g .sofar ++ paper a ∷ [];
           many = omega (arith, g .many, length-append (g .sofar) (paper a ∷ []));
+          small = all-more (g .sofar) (paper a) (g .small) (subst (λ (y : Given). y .value < 4294967296) q v);
           put = put-one (paper a) (p ∙ ap (λ (y : Given). answerAt (5 * n) y out) q);
           same = append-assoc (g .sofar) (paper a ∷ []) (givenOn w′ (restAt file (at + k)))
               ∙ ap (λ (u : Answer × Raw). g .sofar ++ paper (u .0) ∷ givenOn (u .1) (restAt file (at + k))) c
@@ -132,20 +140,25 @@ module _ {file out₀ out : List ℕ} {w : Raw} {at n : ℕ} (g : Going file out
               ∙ g .same;
         }
 
-  -- what a run returns and leaves that ends so
+  -- what a run returns and leaves, and that its answers can be read back
+  abbrev Ended : ℕ → List ℕ → Type 0
+  Ended r out′ = ((r, out′) ≡ written 32 256 (stepsOf file) out₀) × (all narrow (answersTo 32 256 (stepsOf file)) ≡ true)
+
   end-as : {out′ : List ℕ} (e : End) (gs : List Given) → restAt file at .end ≡ e → gs ≡ answersTo 32 256 (stepsOf file) → out′ ≡ withAnswers gs out₀
-      → (65536 * numberOf e + length gs, out′) ≡ written 32 256 (stepsOf file) out₀
+      → all narrow gs ≡ true → (r : ℕ) → r ≡ 65536 * numberOf e + length gs → Ended r out′
   unfolding written
-  end-as e gs q a p =
-      (λ j. (65536 * numberOf ((sym q ∙ g .ends) j) + length (a j), p j)) ∙ (λ j. (65536 * numberOf (stepsOf file .end) + length (answersTo 32 256 (stepsOf file)), withAnswers (a j) out₀))
+  end-as e gs q a p s r k = (
+    (λ j. (k j, p j)) ∙ (λ j. (65536 * numberOf ((sym q ∙ g .ends) j) + length (a j), withAnswers (a j) out₀)),
+    sym (ap (all narrow) a) ∙ s,
+  )
 
   -- the file has ended
-  pub go-done : length file ≤ at → (n, out) ≡ written 32 256 (stepsOf file) out₀
+  pub go-done : length file ≤ at → Ended n out
   unfolding linesOn
   go-done l =
       let e = next-done file at l in
       let a = sym (append-nil (g .sofar)) ∙ ap (λ (h : Contents). g .sofar ++ givenOn w h) (sym e) ∙ g .same in
-      ap (λ (k : ℕ). (k, out)) (omega (arith, g .many)) ∙ end-as Done (g .sofar) (ap (λ (h : Contents). h .end) e) a (g .put)
+      end-as Done (g .sofar) (ap (λ (h : Contents). h .end) e) a (g .put) (g .small) n (omega (arith, g .many))
 
   -- a bad step ends the run after its own answer
   module _ (l : at < length file) (e : decoded (partAt file at) ≡ Bad) where
@@ -153,10 +166,10 @@ module _ {file out₀ out : List ℕ} {w : Raw} {at n : ℕ} (g : Going file out
     unfolding linesOn
     bad-room r = omega (arith, go-room r, ap (λ (h : Contents). length (givenOn w h)) (next-bad file at l e))
 
-    pub go-bad : (out′ : List ℕ) → out′ ≡ answerAt (5 * n) (given 10 at) out → (655360 + n + 1, out′) ≡ written 32 256 (stepsOf file) out₀
+    pub go-bad : at < 4294967296 → (out′ : List ℕ) → out′ ≡ answerAt (5 * n) (given 10 at) out → Ended (655360 + n + 1) out′
     unfolding linesOn
-    go-bad out′ p =
+    go-bad s out′ p =
         let b = next-bad file at l e in
         let a = ap (λ (h : Contents). g .sofar ++ givenOn w h) (sym b) ∙ g .same in
         let k : 655360 + n + 1 ≡ 655360 + length (g .sofar ++ given 10 at ∷ []) = omega (arith, g .many, length-append (g .sofar) (given 10 at ∷ [])) in
-        ap (λ (r : ℕ). (r, out′)) k ∙ end-as (BadAt at) (g .sofar ++ given 10 at ∷ []) (ap (λ (h : Contents). h .end) b) a (put-one (given 10 at) p)
+        end-as (BadAt at) (g .sofar ++ given 10 at ∷ []) (ap (λ (h : Contents). h .end) b) a (put-one (given 10 at) p) (all-more (g .sofar) (given 10 at) (g .small) s) (655360 + n + 1) k

@@ -1,6 +1,6 @@
 -- What a run of a step file writes and returns, in terms of the history machine. Assumes nothing.
 use Prim.Native.Nat.{ℕ, _+_, _*_}
-use mathlib.Core.Bool.{cond}
+use mathlib.Core.Bool.{Bool, cond}
 use mathlib.Core.List.{List, [], _∷_, _++_, map}
 use lib.Dec.{ltb}
 use lib.ListN.{length}
@@ -15,6 +15,10 @@ use Rattle.steps.specs.Decoding.{BadAt, Contents, Done, End, stepsOf}
 abbrev pub badAnswer : End → List Given
 badAnswer Done = []
 badAnswer (BadAt at) = given 10 at ∷ []
+
+-- the value has room in an answer's four bytes: "Values 0 to 4,294,967,295"
+abbrev pub narrow : Given → Bool
+narrow g = ltb (g .value) 4294967296
 
 -- the number of a run that writes its answers: 10 if a bad step ended it
 abbrev pub numberOf : End → ℕ

@@ -18,14 +18,16 @@ use terms::Given;
 use terms::Row;
 use terms::Step;
 ghost use mathlib.Core.Path.{_≡_};
-ghost use Prim.Native.Nat.{_*_, _≤_};
+ghost use mathlib.Core.Bool.{true};
+ghost use Prim.Native.Nat.{_*_, _≤_, _<_};
 ghost use lib.ListN.{length};
+ghost use Rattle.rules.specs.Lists.{all};
 ghost use Rattle.rules.specs.Machine.{callOf};
 ghost use Rattle.rules.specs.Public.{callOn};
 ghost use Rattle.calls.specs.Lent.{raw, Sound};
 ghost use Rattle.steps.specs.Decoding.{stepsOf};
 ghost use Rattle.runner.specs.Ready.{Closed, Ready};
-ghost use Rattle.runner.specs.Run.{answersTo, runOn, written};
+ghost use Rattle.runner.specs.Run.{answersTo, narrow, runOn, written};
 
 // Opens a number of items, all of which start at 0.
 fn open_zeros(
@@ -136,6 +138,7 @@ fn advance(
 fn play(file: &[u8], out: &mut [u8]) -> u64
     requires { ⌜ (length (now file) ≤ 8192) × (5 * length (answersTo 32 256 (stepsOf (now file))) ≤ length (now out)) ⌝ }
     ensures { λ r. ⌜ (r, now (out .exit)) ≡ written 32 256 (stepsOf (now (file .entry))) (now (out .entry)) ⌝ }
+    ensures { λ _. ⌜ all narrow (answersTo 32 256 (stepsOf (now (file .entry)))) ≡ true ⌝ }
 {
     let mut head = [0u32; 3];
     let mut values = [0u32; 256];
@@ -168,9 +171,10 @@ fn play(file: &[u8], out: &mut [u8]) -> u64
     n as u64
 }
 
-// Runs a step file into an answer buffer.
+// Runs a step file into an answer buffer. Where answers are written, each value has room in its bytes, so that they can be read back.
 pub fn run(file: &[u8], out: &mut [u8]) -> u64
     ensures { λ r. ⌜ (r, now (out .exit)) ≡ runOn 32 256 (now (file .entry)) (now (out .entry)) ⌝ }
+    ensures { λ r. ⌜ (r < 65536 * 11 → all narrow (answersTo 32 256 (stepsOf (now (file .entry)))) ≡ true) ⌝ }
 {
     if 8192 < file.len() {
         return 65536 * 11;
@@ -185,6 +189,7 @@ pub fn run(file: &[u8], out: &mut [u8]) -> u64
 #[no_mangle]
 pub extern "C" fn parlour_run(steps: &[u8], answers: &mut [u8]) -> u64
     ensures { λ r. ⌜ (r, now (answers .exit)) ≡ runOn 32 256 (now (steps .entry)) (now (answers .entry)) ⌝ }
+    ensures { λ r. ⌜ (r < 65536 * 11 → all narrow (answersTo 32 256 (stepsOf (now (steps .entry)))) ≡ true) ⌝ }
 {
     run(steps, answers)
 }

@@ -32,7 +32,7 @@ fn two(part: &[u8], at: usize) -> u32
 }
 
 // The number in four bytes.
-fn four(part: &[u8], at: usize) -> u32
+pub fn four(part: &[u8], at: usize) -> u32
     requires { ⌜ at + 4 ≤ length (now part) ⌝ }
     ensures { λ r. ⌜ r ≡ field at 4 (now (part .entry)) ⌝ }
 {

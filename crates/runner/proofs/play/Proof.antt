@@ -1,7 +1,7 @@
 -- `runner::play` meets its contract: so far the answers to the steps before an offset are written. What is left of the file falls. Assumes nothing.
 use Prim.Native.Nat.{_-_}
 use native.Mathlib.Omega.{arith}
-use mathlib.Core.Path.{_∙_, ap, sym}
+use mathlib.Core.Path.{_∙_, sym}
 use lib.ListN.{length}
 use borrow.Author.Needs.{needs}
 use Rattle.calls.specs.Lent.{raw}
@@ -19,29 +19,8 @@ abbrev μ-loop : tie.MeasureT-loop
 μ-loop file out₀ head₀ values₀ writers₀ rows₀ recs₀ at₀ n₀ out head values writers rows recs at n =
     length file - at
 
-no-rows-requires : tie.Need-no-rows-requires Inv-loop μ-loop
-no-rows-requires c κs = search needs
-
 loop-holds : tie.Need-loop-holds Inv-loop μ-loop
 loop-holds c = go-start _ _ _ (file-ranged _ (λ i. omega (arith, c .before .before .shared-slice-known .given i))) (all-zero (c .no-rows .ensures))
-
-sub-decode : tie.Need-sub-decode Inv-loop μ-loop
-sub-decode c = search needs
-
-part-decode-start : tie.Need-part-decode-start Inv-loop μ-loop
-part-decode-start c = search needs
-
-part-decode-end : tie.Need-part-decode-end Inv-loop μ-loop
-part-decode-end c = search needs
-
-decode-requires : tie.Need-decode-requires Inv-loop μ-loop
-decode-requires c κs = search needs
-
-enum-known-d : tie.Need-enum-known-d Inv-loop μ-loop
-enum-known-d c = search needs
-
-enum-told : tie.Need-enum-told Inv-loop μ-loop
-enum-told c = search needs
 
 mul-put-answer : tie.Need-mul-put-answer Inv-loop μ-loop
 mul-put-answer c = omega (arith, (c .before .before .before .before .before .before .loop .inv) .few, (c .before .before .before .before .before .before .loop .inv) .at-most, c .before .before .before .before .before .before .before .before .before .before .pre .0)
@@ -62,7 +41,7 @@ same-length : tie.Need-same-length Inv-loop μ-loop
 same-length c = omega (arith, go-long (c .before .before .before .before .before .before .before .before .before .loop .inv) (c .before .before .before .before .before .before .before .before .before .before .before .before .before .pre .1))
 
 returns : tie.Need-returns Inv-loop μ-loop
-returns c = go-bad (c .before .before .before .before .before .before .before .before .before .loop .inv) (c .before .before .before .before .before .before .before .before .loop-test .taken) (sym (c .before .before .before .before .before .before .decode .ensures) ∙ c .before .before .before .before .enum-told .given .1) _ (c .before .before .put-answer .ensures)
+returns c = go-bad (c .before .before .before .before .before .before .before .before .before .loop .inv) (c .before .before .before .before .before .before .before .before .loop-test .taken) (sym (c .before .before .before .before .before .before .decode .ensures) ∙ c .before .before .before .before .enum-told .given .1) (omega (arith, c .before .before .before .before .before .before .before .before .before .loop .inv .at-most, c .before .before .before .before .before .before .before .before .before .before .before .before .before .pre .0)) _ (c .before .before .put-answer .ensures)
 
 slice-aggregate-advance : tie.Need-slice-aggregate-advance Inv-loop μ-loop
 slice-aggregate-advance c = sym (ready-long _ ((c .before .before .before .before .before .before .before .loop .inv) .ready) .head)
@@ -82,9 +61,6 @@ advance-requires c κs = (c .before .before .before .before .before .before .bef
 mul-put-answer-2 : tie.Need-mul-put-answer-2 Inv-loop μ-loop
 mul-put-answer-2 c = omega (arith, (c .before .before .before .before .before .before .before .before .before .before .before .before .before .before .before .before .loop .inv) .few, (c .before .before .before .before .before .before .before .before .before .before .before .before .before .before .before .before .loop .inv) .at-most, c .before .before .before .before .before .before .before .before .before .before .before .before .before .before .before .before .before .before .before .before .pre .0)
 
-given-requires : tie.Need-given-requires Inv-loop μ-loop
-given-requires c κs = search needs
-
 put-answer-requires-2 : tie.Need-put-answer-requires-2 Inv-loop μ-loop
 put-answer-requires-2 c κs = (good-room (c .before .before .before .before .before .before .before .before .before .before .before .before .before .before .before .before .before .loop .inv) (sym (c .before .before .before .before .before .before .before .before .before .before .before .before .before .before .decode .ensures) ∙ c .before .before .before .before .before .before .before .before .before .before .before .before .d .given .1) (c .before .before .before .before .before .before .before .before .before .before .before .before .before .before .before .before .before .before .before .before .before .pre .1), number-small (c .before .before .before .before .before .before .advance .result .answer) (c .given .ensures))
 
@@ -98,7 +74,7 @@ loop-less : tie.Need-loop-less Inv-loop μ-loop
 loop-less c = omega (arith, go-inside (c .before .before .before .before .before .before .before .before .before .before .before .before .before .before .before .before .before .before .before .before .before .loop .inv) (sym (c .before .before .before .before .before .before .before .before .before .before .before .before .before .before .before .before .before .before .decode .ensures) ∙ c .before .before .before .before .before .before .before .before .before .before .before .before .before .before .before .before .d .given .1) .0, go-inside (c .before .before .before .before .before .before .before .before .before .before .before .before .before .before .before .before .before .before .before .before .before .loop .inv) (sym (c .before .before .before .before .before .before .before .before .before .before .before .before .before .before .before .before .before .before .decode .ensures) ∙ c .before .before .before .before .before .before .before .before .before .before .before .before .before .before .before .before .d .given .1) .1)
 
 loop-again : tie.Need-loop-again Inv-loop μ-loop
-loop-again c = go-next (c .before .before .before .before .before .before .before .before .before .before .before .before .before .before .before .before .before .before .before .before .before .loop .inv) (sym (c .before .before .before .before .before .before .before .before .before .before .before .before .before .before .before .before .before .before .decode .ensures) ∙ c .before .before .before .before .before .before .before .before .before .before .before .before .before .before .before .before .d .given .1) _ _ _ (c .before .before .before .before .before .before .before .before .before .before .advance .ensures) (c .before .before .before .before .given .ensures) (c .before .before .before .put-answer2 .ensures)
+loop-again c = go-next (c .before .before .before .before .before .before .before .before .before .before .before .before .before .before .before .before .before .before .before .before .before .loop .inv) (sym (c .before .before .before .before .before .before .before .before .before .before .before .before .before .before .before .before .before .before .decode .ensures) ∙ c .before .before .before .before .before .before .before .before .before .before .before .before .before .before .before .before .d .given .1) _ _ _ (c .before .before .before .before .before .before .before .before .before .before .advance .ensures) (c .before .before .before .before .given .ensures) (omega arith) (c .before .before .before .put-answer2 .ensures)
 
 same-length-2 : tie.Need-same-length-2 Inv-loop μ-loop
 same-length-2 c = omega (arith, go-long (c .before .loop .inv) (c .before .before .before .before .before .pre .1))
@@ -112,14 +88,14 @@ play-spec =
     (tie.spec
     Inv-loop
     μ-loop
-    no-rows-requires
+    (λ c κs. search needs)
     loop-holds
-    sub-decode
-    part-decode-start
-    part-decode-end
-    decode-requires
-    enum-known-d
-    enum-told
+    (λ c. search needs)
+    (λ c. search needs)
+    (λ c. search needs)
+    (λ c κs. search needs)
+    (λ c. search needs)
+    (λ c. search needs)
     mul-put-answer
     cast-t25
     put-answer-requires
@@ -133,7 +109,7 @@ play-spec =
     slice-aggregate-advance-4
     advance-requires
     mul-put-answer-2
-    given-requires
+    (λ c κs. search needs)
     put-answer-requires-2
     add-at
     add-n

@@ -8,39 +8,27 @@ use borrow.Author.Needs.{needs}
 use Rattle.runner.proofs.run.Statement.{statement}
 use Rattle.runner.proofs.run.Tie as tie
 
-mul-result : tie.Need-mul-result
-mul-result c = search needs
-
 returns : tie.Need-returns
-returns c = sym (too-long 32 256 _ _ (c .if1 .taken))
-
-count-requires : tie.Need-count-requires
-count-requires c κs = search needs
-
-mul-result-2 : tie.Need-mul-result-2
-mul-result-2 c = search needs
+returns c = (sym (too-long 32 256 _ _ (c .if1 .taken)), λ l. absurd (omega arith))
 
 returns-2 : tie.Need-returns-2
-returns-2 c = sym (no-room 32 256 _ _ (c .before .before .if1 .left) (omega (arith, c .if2 .taken, c .before .count .ensures, answers-many 32 256 (stepsOf (c .before .before .before .before .before .args .file .now)))))
+returns-2 c = (sym (no-room 32 256 _ _ (c .before .before .if1 .left) (omega (arith, c .if2 .taken, c .before .count .ensures, answers-many 32 256 (stepsOf (c .before .before .before .before .before .args .file .now))))), λ l. absurd (omega arith))
 
 play-requires : tie.Need-play-requires
 play-requires c κs = (c .before .before .before .if1 .left, omega (arith, c .before .if2 .left, c .before .before .count .ensures, answers-many 32 256 (stepsOf (c .before .before .before .before .before .before .args .file .now))))
 
-same-length : tie.Need-same-length
-same-length c = search needs
-
 returns-3 : tie.Need-returns-3
-returns-3 c = c .before .before .play .ensures ∙ sym (all-written 32 256 _ _ (c .before .before .before .before .before .before .if1 .left) (omega (arith, c .before .before .before .before .if2 .left, c .before .before .before .before .before .count .ensures, answers-many 32 256 (stepsOf (c .before .before .before .before .before .before .before .before .before .args .file .now)))))
+returns-3 c = (c .before .before .play .ensures .0 ∙ sym (all-written 32 256 _ _ (c .before .before .before .before .before .before .if1 .left) (omega (arith, c .before .before .before .before .if2 .left, c .before .before .before .before .before .count .ensures, answers-many 32 256 (stepsOf (c .before .before .before .before .before .before .before .before .before .args .file .now))))), λ l. c .before .before .play .ensures .1)
 
 pub run-spec : {M : Type 1} → statement M
 run-spec =
     tie.close
     (tie.spec
-    mul-result
+    (λ c. search needs)
     returns
-    count-requires
-    mul-result-2
+    (λ c κs. search needs)
+    (λ c. search needs)
     returns-2
     play-requires
-    same-length
+    (λ c. search needs)
     returns-3)
