@@ -2,18 +2,32 @@
 use Prim.Native.Nat.{ℕ, _+_, _≤_, _<_}
 use native.Mathlib.Omega.{arith}
 use native.Mathlib.Nat.{add-zero, zero-add}
-use mathlib.Core.Bool.{Bool, true, false, _&&_, _||_}
+use mathlib.Core.Bool.{Bool, true, false, _&&_, _||_, and-false, and-true}
 use mathlib.Core.Path.{_≡_, refl, sym, ap, _∙_}
 use mathlib.Core.List.{List}
 use lib.ListN.{length, getD, take, drop, length-take}
 use Rattle.rules.specs.Lists.{all, any, keep, pairs, upfrom}
 use Rattle.lists.proofs.Keeps.{put}
-use Rattle.lists.proofs.Scans.{Going, count-next, count-here, count-done, part-next, part-here, part-done}
+use Rattle.lists.proofs.Scans.{Going, go-next, go-done, count-next, count-here, count-done, part-next, part-here, part-done}
 
 module _ {A : Type 0} where
   -- what is left is what is asked for
   pub all-from : {p : A → Bool} {xs : List A} {j : ℕ} → j ≤ length xs → Going xs (all p) (all p (drop j xs)) j
   all-from h = record { at-most = h; same = refl }
+
+  -- ---- all, with no way out: b so far, and what the rest adds
+  abbrev pub still : (A → Bool) → Bool → List A → Bool
+  still p b ys = b && all p ys
+
+  module _ (p : A → Bool) (b : Bool) {xs : List A} {v : Bool} {j : ℕ} (s : Going xs (still p b) v j) where
+    pub still-next : (d : A) → j < length xs → p (getD xs j d) ≡ true → Going xs (still p b) v (j + 1)
+    still-next d l e = go-next s d (still p b) l (λ ys. ap (λ (t : Bool). b && (t && all p ys)) e)
+
+    pub still-shut : (d : A) → j < length xs → p (getD xs j d) ≡ false → Going xs (still p false) v (j + 1)
+    still-shut d l e = go-next s d (still p false) l (λ ys. ap (λ (t : Bool). b && (t && all p ys)) e ∙ and-false b)
+
+    pub still-end : length xs ≤ j → b ≡ v
+    still-end l = sym (and-true b) ∙ go-done s l
 
   -- ---- all of the first n
   module _ (p : A → Bool) (n : ℕ) (xs : List A) (h : n ≤ length xs) {v : Bool} {j : ℕ} (s : Going (take n xs) (all p) v j) where
