@@ -16,5 +16,6 @@ pub mod Unmixing
 pub mod Seeing
 pub mod Telling
 pub mod Tested
+pub mod Peeling
 pub mod Ringing
 pub mod Sounding
