@@ -11,6 +11,7 @@ pub mod Spans
 pub mod Places
 pub mod Installing
 pub mod ItemTests
+pub mod Earlier
 pub mod Standing
 pub mod Unmixing
 pub mod Seeing

@@ -31,6 +31,7 @@ use Rattle.graph.proofs.Sets.{member-and, member-zero}
 use Rattle.sound.specs.Items.{Installers, at, earlierThan, names, namesAll, newestOf, top}
 use Rattle.sound.specs.Parts.{held}
 use Rattle.sound.specs.Records.{Owners}
+use Rattle.sound.proofs.Earlier.{earlier-in, earlier-out}
 use Rattle.sound.proofs.ItemTests.{names-other, names-read, top-in, top-last}
 use Rattle.sound.proofs.Places.{in-index, index-in, row-rising}
 use Rattle.sound.proofs.Standing.{Ranked, in-upfrom, installs-in, installs-out, start-rising}
@@ -80,17 +81,20 @@ module _ (w count next moment n m : ℕ) (vs ws writers numbers : List ℕ) (rs 
 
     -- a row of the set is a writer that ended before
     in-out : (j : ℕ) → member M j ≡ true → (j < n) × (committed (at rs j) ≡ true) × (wrote S (num (at rs j)) e ≡ true) × (done (at rs j) < start (at rs o))
-    unfolding earlierThan
     in-out j h =
         let b = sym (member-and (getD inst e 0) (getD early o 0) j) ∙ h in
         let u = installs-out count next moment n m vs ws rs ps hn e j (sym (ins .is e j small) ∙ and-left _ _ b) in
-        (u .0, u .1, u .2, ltb-true _ _ (sym (early-at o j (own .inside t lt) (u .0)) ∙ and-right (member (getD inst e 0) j) _ b))
+        (u .0, u .1, u .2, earlier-out rs o j (sym (early-at o j (own .inside t lt) (u .0)) ∙ and-right (member (getD inst e 0) j) _ b) .2)
 
     out-in : (j : ℕ) → j < n → committed (at rs j) ≡ true → wrote S (num (at rs j)) e ≡ true → done (at rs j) < start (at rs o) → member M j ≡ true
-    unfolding earlierThan
     out-in j l c h b =
         member-and (getD inst e 0) (getD early o 0) j
-        ∙ and-both _ _ (ins .is e j small ∙ installs-in count next moment n m vs ws rs ps hn e j l c h) (early-at o j (own .inside t lt) l ∙ lt-ltb _ _ b)
+        ∙ and-both _ _ (ins .is e j small ∙ installs-in count next moment n m vs ws rs ps hn e j l c h) (early-at o j (own .inside t lt) l ∙ earlier-in rs o j (before (decLt o j) (ℕ-discrete o j)) c b)
+      where
+        before : Dec (o < j) → Dec (o ≡ j) → j < o
+        before (yes q) z = absurd (omega (arith, b, k .ends (in-index zeroRow n rs hn j l) c, start-rising count next moment n m vs ws rs ps hn k o j q l))
+        before (no q) (yes z) = absurd (omega (arith, b, k .ends (in-index zeroRow n rs hn j l) c, ap (λ (i : ℕ). start (at rs i)) z))
+        before (no q) (no z) = omega arith
 
     fits : M < 2 ^ w
     fits = set-small w M (λ j h. omega (arith, in-out j h .0))

@@ -32,14 +32,6 @@ module _ (rs : List Row) (i j : ℕ) where
   unfolding clashing
   clash-no l h = ap (λ (b : Bool). b && ltb (start (at rs j)) (done (at rs i))) (lt-ltb i j l) ∙ le-ltb (start (at rs j)) (done (at rs i)) h
 
-  pub earlier-yes : done (at rs j) < start (at rs i) → earlierThan rs i j ≡ true
-  unfolding earlierThan
-  earlier-yes h = lt-ltb _ _ h
-
-  pub earlier-no : start (at rs i) ≤ done (at rs j) → earlierThan rs i j ≡ false
-  unfolding earlierThan
-  earlier-no h = le-ltb _ _ h
-
 -- the set is filled to the end
 pub filled-whole : {m k n : ℕ} {f : Nodes} → Filled m k f → k ≤ n → n ≤ k → Filled m n f
 filled-whole {m} {k} {n} {f} h a b = let e : k ≡ n = omega arith in subst (λ (i : ℕ). Filled m i f) e h

@@ -17,12 +17,12 @@ use Rattle.graph.specs.Sets.{apart, member}
 abbrev pub at : List Row → ℕ → Row
 at rs i = getD rs i zeroRow
 
--- j stands behind i and started before i's commit; j's commit is before i's start
+-- j stands behind i and started before i's commit; j stands before i, is committed, and ended before i's start
 unfoldable pub clashing : List Row → ℕ → ℕ → Bool
 clashing rs i j = ltb i j && ltb (start (at rs j)) (done (at rs i))
 
 unfoldable pub earlierThan : List Row → ℕ → ℕ → Bool
-earlierThan rs i j = ltb (done (at rs j)) (start (at rs i))
+earlierThan rs i j = ltb j i && (committed (at rs j) && ltb (done (at rs j)) (start (at rs i)))
 
 -- the record is a write of item e by the committed row at j, one of the first n
 unfoldable pub installs : ℕ → List Row → ℕ → ℕ → ℕ → Bool

@@ -15,7 +15,7 @@ ghost use lib.Bits.{bitAnd};
 ghost use lib.ListN.{length, take, getD, replicate};
 ghost use Rattle.graph.specs.Fill.{Tabled};
 ghost use Rattle.terms.specs.Words.{num};
-ghost use Rattle.sound.specs.Rows.{ascends};
+ghost use Rattle.sound.specs.Rows.{ascends, rises};
 ghost use Rattle.sound.specs.Told.{ItemsTold};
 ghost use Rattle.sound.specs.Records.{Owners};
 ghost use Rattle.sound.specs.Items.{clashing, earlierThan, isInstall, Installers, clearAll, top, newestOf, namesAll};
@@ -45,28 +45,25 @@ pub fn clashes(rows: [Row; ROWS], used: usize, out: &mut [Set])
     }
 }
 
-// For each used row, those that ended before its start, or have not.
+// For each used row, the committed ones before it that ended before its start. Starts ascend, so one that ended stays so for all that follow.
 pub fn earlier(rows: [Row; ROWS], used: usize, out: &mut [Set])
-    requires { do ⌜ (used ≤ (← ⟦ROWS⟧)) × (used ≤ length (now out)) ⌝ }
+    requires { do ⌜ (used ≤ (← ⟦ROWS⟧)) × (used ≤ length (now out)) × (rises (take used rows) ≡ true) ⌝ }
     ensures { λ _. ⌜ (length (now (out .exit)) ≡ length (now (out .entry))) × Tabled used (now (out .exit)) (earlierThan rows) ⌝ }
 {
+    let mut ends = [0; ROWS];
+    let mut kept = 0;
+    let mut done = 0;
     let mut i = 0;
     while i < used {
-        let a = rows[i];
-        let begun = a.start;
-        let mut m = 0;
-        let mut j = 0;
-        while j < used {
-            let k = j;
-            let b = rows[k];
-            let done = b.commit;
-            j += 1;
-            if done.0 < begun.0 {
-                m = graph::with(m, k);
-            }
-        }
-        out[i] = m;
+        let k = i;
+        let r = rows[k];
+        done = edges::past(&ends, kept, done, r.start.0);
+        out[k] = done;
         i += 1;
+        if !r.active() {
+            ends[k] = r.commit.0;
+            kept = graph::with(kept, k);
+        }
     }
 }
 
@@ -198,7 +195,7 @@ pub fn has_items(
     numbers: &[u32],
     writers: &[u32],
 ) -> bool
-    requires { do ⌜ (used ≤ (← ⟦ROWS⟧)) × (filed ≤ length (now recs)) × (filed ≤ length (now owners)) × (length (now numbers) ≡ (← ⟦ROWS⟧)) × (length (now writers) ≡ (← ⟦ITEMS⟧)) × (ascends (take used rows) ≡ true) × Owners used filed rows (now recs) (now owners) × (take used (now numbers) ≡ map num (take used rows)) ⌝ }
+    requires { do ⌜ (used ≤ (← ⟦ROWS⟧)) × (filed ≤ length (now recs)) × (filed ≤ length (now owners)) × (length (now numbers) ≡ (← ⟦ROWS⟧)) × (length (now writers) ≡ (← ⟦ITEMS⟧)) × (ascends (take used rows) ≡ true) × (rises (take used rows) ≡ true) × Owners used filed rows (now recs) (now owners) × (take used (now numbers) ≡ map num (take used rows)) ⌝ }
     ensures { λ b. ⌜ ItemsTold used filed rows (now (recs .entry)) (now (writers .entry)) b ⌝ }
 {
     let mut wrote = [0; ITEMS];

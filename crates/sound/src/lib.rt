@@ -18,7 +18,7 @@ ghost use mathlib.Core.Bool.{true};
 ghost use Prim.Native.Nat.{_≤_};
 ghost use lib.ListN.{length, take};
 ghost use Rattle.rules.specs.Raw.{soundRaw};
-ghost use Rattle.sound.specs.Rows.{ascends};
+ghost use Rattle.sound.specs.Rows.{ascends, rises};
 ghost use Rattle.sound.specs.Shape.{raw};
 ghost use Rattle.sound.specs.Told.{LinksTold, testedRaw};
 
@@ -40,7 +40,7 @@ fn has_links(
     recs: &[u64],
     filed: usize,
 ) -> bool
-    requires { do ⌜ (used ≤ (← ⟦ROWS⟧)) × (filed ≤ length (now recs)) × (filed ≤ (← ⟦RECS⟧)) × (length (now writers) ≡ (← ⟦ITEMS⟧)) × (count ≤ (← ⟦ITEMS⟧)) × (ascends (take used rows) ≡ true) ⌝ }
+    requires { do ⌜ (used ≤ (← ⟦ROWS⟧)) × (filed ≤ length (now recs)) × (filed ≤ (← ⟦RECS⟧)) × (length (now writers) ≡ (← ⟦ITEMS⟧)) × (count ≤ (← ⟦ITEMS⟧)) × (ascends (take used rows) ≡ true) × (rises (take used rows) ≡ true) ⌝ }
     ensures { λ b. ⌜ LinksTold count next used filed (now (writers .entry)) rows (now (recs .entry)) b ⌝ }
 {
     let mut owners = [0; RECS];
