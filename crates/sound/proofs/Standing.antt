@@ -2,12 +2,12 @@
 use Prim.Native.Nat.{ℕ, zero, suc, _+_, _≤_, _<_}
 use native.Mathlib.Omega.{arith}
 use native.Mathlib.Decide.{decLt}
-use mathlib.Core.Bool.{true, _&&_, and-eq-true-iff}
+use mathlib.Core.Bool.{true, not, _&&_, and-eq-true-iff}
 use mathlib.Core.Path.{_≡_, sym, ap, _∙_}
 use mathlib.Core.List.{List, [], _∷_, List·Memᴰ·head, List·Memᴰ·tail, Memᴰ·map, Memᴰ·of-map}
-use lib.Dec.{leb, ltb}
+use lib.Dec.{eqb, leb, ltb}
 use lib.ListN.{length, take}
-use borrow.Author.Tests.{eq-eqb, eqb-true, leb-true, lt-ltb, ltb-true}
+use borrow.Author.Tests.{eq-eqb, eqb-false, eqb-true, leb-true, lt-ltb, ltb-true, not-true}
 use Rattle.terms.specs.declared.Row.{Row}
 use Rattle.terms.specs.declared.Rec.{Rec}
 use Rattle.terms.specs.Words.{committed, done, item, num, start, txn}
@@ -28,6 +28,7 @@ pub record Ranked (s : State) : Type 0 where
   pub ascend : Ascend (s .rows)
   pub rising : rises (s .rows) ≡ true
   pub ends : {r : Row} → r ∈ s .rows → committed r ≡ true → start r < done r
+  pub cross : {c r : Row} → c ∈ s .rows → committed c ≡ true → r ∈ s .rows → done c ≡ start r → ⊥
   pub known : Known s
 
 starts-rise : (s : State) → numbered s ≡ true → rises (s .rows) ≡ true
@@ -43,6 +44,8 @@ ranked s o hn ht =
       ascend = o;
       rising = starts-rise s hn;
       ends = λ {r} m c. ltb-true (start r) (done r) (and-left _ _ (all-out (λ r. ltb (start r) (done r) && ltb (done r) (s .moment)) (keep-in committed m c) (v .0 .0 .1)));
+      cross = λ {c} {r} mc e mr.
+          eqb-false (done c) (start r) (not-true _ (all-out (λ r. not (eqb (done c) (start r))) mr (all-out (λ c. all (λ r. not (eqb (done c) (start r))) (s .rows)) (keep-in committed mc e) (v .1))));
       known = record {
         ascend = o;
         positive = λ {r} m. leb-true 1 (num r) (and-left _ _ (all-out (λ r. leb 1 (num r) && ltb (num r) (s .next)) m n));
