@@ -1,10 +1,9 @@
 -- The pass over the records: the writers of an item met so far that stand before a record's row are all such writers; what the tests so far say. Assumes nothing.
-use Prim.Native.Nat.{ℕ, zero, suc, _+_, _*_, _/_, _^_, _≤_, _<_}
+use Prim.Native.Nat.{ℕ, zero, suc, _+_, _^_, _≤_, _<_}
 use native.Mathlib.Omega.{arith}
 use native.Mathlib.Decide.{decLt, ℕ-discrete}
 use mathlib.Core.Bool.{Bool, true, false, not, _&&_, _||_, false≢true}
-use mathlib.Core.Logic.{_⊎_, inl, inr}
-use mathlib.Core.Path.{_≡_, refl, sym, ap, subst, _∙_}
+use mathlib.Core.Path.{_≡_, sym, ap, _∙_}
 use mathlib.Core.List.{List, [], _∷_, map, Memᴰ·map}
 use lib.Bits.{bitAnd, bitOr}
 use lib.Dec.{eqb, ltb}
@@ -14,18 +13,18 @@ use borrow.Author.Tests.{eqb-true, ltb-true}
 use Rattle.terms.specs.declared.Row.{Row}
 use Rattle.terms.specs.Words.{committed, isRead, isWrite, item, key, num, txn}
 use Rattle.rules.specs.Lists.{all, any}
-use Rattle.rules.specs.Raw.{unpack, zeroRow}
+use Rattle.rules.specs.Raw.{unpack}
 use Rattle.laws.proofs.Lists.{all-out, and-both, and-left, and-right, any-in, any-out, both-ways}
 use Rattle.laws.proofs.Rows.{Ascend}
 use Rattle.graph.specs.Fill.{Tabled}
 use Rattle.graph.specs.Sets.{edges, member}
 use Rattle.graph.proofs.Sets.{member-and}
 use Rattle.sound.specs.Items.{at, earlierThan, installs, isInstall, newestOf}
-use Rattle.sound.specs.Records.{Owners, keyOf, sorted}
+use Rattle.sound.specs.Records.{Owners, sorted}
 use Rattle.sound.proofs.Earlier.{earlier-out}
 use Rattle.sound.proofs.Filed.{key-is}
-use Rattle.sound.proofs.Installing.{Met, met-put, met-skip, met-start}
-use Rattle.sound.proofs.Places.{in-index, index-in, row-one, row-order, row-rising, stands-at}
+use Rattle.sound.proofs.Installing.{Met, met-put, met-skip}
+use Rattle.sound.proofs.Places.{in-index, index-in, row-rising, stands-at}
 
 -- keys ascend by index
 sorted-at : (ps : List ℕ) → sorted ps ≡ true → (i j : ℕ) → i < j → j < length ps → key (unpack (getD ps i 0)) < key (unpack (getD ps j 0))

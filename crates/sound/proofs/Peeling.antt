@@ -4,25 +4,21 @@ use native.Mathlib.Omega.{arith}
 use native.Mathlib.Decide.{ℕ-discrete}
 use mathlib.Core.Bool.{Bool, true, false, not, _&&_, false≢true}
 use mathlib.Core.Logic.{_⊎_, inl, inr}
-use mathlib.Core.Path.{_≡_, refl, sym, ap, subst, _∙_}
+use mathlib.Core.Path.{_≡_, sym, ap, subst, _∙_}
 use mathlib.Core.List.{List}
-use lib.Bits.{bitAnd, bitOr}
 use lib.Dec.{T, eqb}
-use lib.ListN.{length, getD}
+use lib.ListN.{getD}
 use borrow.Author.Tests.{eq-eqb, ne-eqb, not-false, not-true}
 use Rattle.rules.specs.Graph.{Edges, Nodes, Reaches, Way}
 use Rattle.rules.specs.Lists.{any, upfrom}
 use Rattle.laws.proofs.Lists.{T-in, T-out, and-both, and-left, and-right, any-in, any-out, passed}
-use Rattle.laws.proofs.Tables.{mem-upfrom}
 use Rattle.graph.specs.Reach.{reachable, ringed}
-use Rattle.graph.specs.Sets.{apart, edges, member, outside}
-use Rattle.graph.specs.Visit.{free}
+use Rattle.graph.specs.Sets.{apart, edges, member}
 use Rattle.graph.proofs.Below.{free-le}
 use Rattle.graph.proofs.Ranks.{rank, rank-forward}
 use Rattle.graph.proofs.Reachable.{acyclic, ringed-is}
-use Rattle.graph.proofs.Sets.{apart-out, member-lt, member-ones, member-zero}
+use Rattle.graph.proofs.Sets.{apart-out, member-lt, member-zero}
 use Rattle.graph.proofs.Tests.{failed, fails}
-use Rattle.edges.proofs.Draws.{without-one}
 use Rattle.sound.specs.Rings.{Peeled, Shed}
 use Rattle.sound.proofs.Standing.{in-upfrom}
 

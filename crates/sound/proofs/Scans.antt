@@ -2,13 +2,13 @@
 use Prim.Native.Nat.{ℕ, _+_, _≤_, _<_}
 use native.Mathlib.Omega.{arith}
 use native.Mathlib.Nat.{add-zero, zero-add}
-use mathlib.Core.Bool.{Bool, true, false, _&&_, _||_, and-false, and-true}
+use mathlib.Core.Bool.{Bool, true, false, _&&_, and-false, and-true}
 use mathlib.Core.Path.{_≡_, refl, sym, ap, _∙_}
 use mathlib.Core.List.{List}
 use lib.ListN.{length, getD, take, drop, length-take}
-use Rattle.rules.specs.Lists.{all, any, keep, pairs, upfrom}
+use Rattle.rules.specs.Lists.{all, keep, pairs}
 use Rattle.lists.proofs.Keeps.{put}
-use Rattle.lists.proofs.Scans.{Going, go-next, go-done, count-next, count-here, count-done, part-next, part-here, part-done}
+use Rattle.lists.proofs.Scans.{Going, go-next, go-done, part-next, part-here, part-done}
 
 module _ {A : Type 0} where
   -- what is left is what is asked for
@@ -84,25 +84,3 @@ module _ {A : Type 0} where
 
       pub facing-done : i ≤ n → n ≤ j → Going (take n xs) (pairs q) v i
       facing-done b l = record { at-most = omega (arith, length-take n xs); same = part-done n xs h s l }
-
--- ---- all numbers below n
-module _ (p : ℕ → Bool) (n : ℕ) {v : Bool} {j : ℕ} (s : Going (upfrom 0 n) (all p) v j) where
-  pub every-next : j < n → p j ≡ true → Going (upfrom 0 n) (all p) v (j + 1)
-  every-next l e = count-next n s (all p) l (λ ys. ap (λ (b : Bool). b && all p ys) e)
-
-  pub every-here : j < n → p j ≡ false → false ≡ v
-  every-here l e = count-here n s l (λ ys. ap (λ (b : Bool). b && all p ys) e)
-
-  pub every-end : n ≤ j → true ≡ v
-  every-end l = count-done n s l
-
--- ---- some number below n
-module _ (p : ℕ → Bool) (n : ℕ) {v : Bool} {j : ℕ} (s : Going (upfrom 0 n) (any p) v j) where
-  pub some-next : j < n → p j ≡ false → Going (upfrom 0 n) (any p) v (j + 1)
-  some-next l e = count-next n s (any p) l (λ ys. ap (λ (b : Bool). b || any p ys) e)
-
-  pub some-here : j < n → p j ≡ true → true ≡ v
-  some-here l e = count-here n s l (λ ys. ap (λ (b : Bool). b || any p ys) e)
-
-  pub some-end : n ≤ j → false ≡ v
-  some-end l = count-done n s l

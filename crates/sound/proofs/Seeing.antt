@@ -6,35 +6,32 @@ use native.Mathlib.Nat.{pow-suc}
 use mathlib.Core.Bool.{Bool, true, false, not, _&&_, _||_, cond, false≢true}
 use mathlib.Core.Logic.{_⊎_, inl, inr}
 use mathlib.Core.Path.{_≡_, sym, ap, _∙_}
-use mathlib.Core.List.{List, map, Memᴰ·map, Memᴰ·of-map}
-use lib.Bits.{bitAnd}
+use mathlib.Core.List.{List}
 use lib.Dec.{eqb}
 use lib.ListN.{length, getD, take}
 use lib.Count.{leading-top}
 use lib.Pow.{pow-mono, pow-pos}
-use borrow.Author.Tests.{eq-eqb, lt-ltb, ltb-true, ne-eqb}
+use borrow.Author.Tests.{eq-eqb, ne-eqb}
 use Rattle.terms.specs.declared.Row.{Row}
 use Rattle.terms.specs.declared.Rec.{Rec}
 use Rattle.terms.specs.Words.{committed, done, isRead, item, num, start, txn, writer}
 use Rattle.rules.specs.Lists.{any}
 use Rattle.rules.specs.State.{State, rowOf, startOf, wrote}
 use Rattle.rules.specs.Versions.{versionAt, visible}
-use Rattle.rules.specs.Sound.{seen, unmixed}
+use Rattle.rules.specs.Sound.{unmixed}
 use Rattle.rules.specs.Raw.{unpack, zeroRow}
-use Rattle.laws.proofs.Lists.{all-in, all-out, and-both, and-left, and-right, both-ways}
+use Rattle.laws.proofs.Lists.{and-both, and-left, and-right}
 use Rattle.laws.proofs.Rows.{row-found}
-use Rattle.laws.proofs.Tables.{mem-upfrom}
 use Rattle.laws.proofs.Versions.{Installed, Unwritten, Writer, recorded-out, stands, writer-in}
-use Rattle.graph.specs.Fill.{Tabled}
-use Rattle.graph.specs.Sets.{edges, member}
-use Rattle.graph.proofs.Sets.{member-and, member-zero}
+use Rattle.graph.specs.Sets.{member}
+use Rattle.graph.proofs.Sets.{member-zero}
 use Rattle.sound.specs.Items.{at, earlierThan, installs, newestOf, top}
 use Rattle.sound.specs.Parts.{held}
 use Rattle.sound.specs.Records.{Owners}
 use Rattle.sound.proofs.Earlier.{earlier-in, earlier-out}
 use Rattle.sound.proofs.ItemTests.{top-in, top-last}
 use Rattle.sound.proofs.Places.{in-index, index-in, row-rising}
-use Rattle.sound.proofs.Standing.{Ranked, in-upfrom, installs-in, installs-out, start-rising}
+use Rattle.sound.proofs.Standing.{Ranked, installs-in, installs-out, start-rising}
 use Rattle.sound.proofs.Unmixing.{clashless}
 
 -- a number is below its power of two; so a set whose members are below w is

@@ -11,7 +11,7 @@ use borrow.Author.Tests.{eq-eqb, eqb-false, eqb-true, leb-true, lt-ltb, ltb-true
 use Rattle.terms.specs.declared.Row.{Row}
 use Rattle.terms.specs.declared.Rec.{Rec}
 use Rattle.terms.specs.Words.{committed, done, item, num, start, txn}
-use Rattle.rules.specs.Lists.{all, any, pairs, upfrom}
+use Rattle.rules.specs.Lists.{all, any, upfrom}
 use Rattle.rules.specs.State.{State, wrote}
 use Rattle.rules.specs.Sound.{numbered, timed}
 use Rattle.rules.specs.Raw.{unpack, zeroRow}

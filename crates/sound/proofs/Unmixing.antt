@@ -1,21 +1,18 @@
 -- The sentence on concurrent writers, of two rows and one record. Assumes nothing.
-use Prim.Native.Nat.{ℕ, _≤_, _<_}
-use native.Mathlib.Omega.{arith}
+use Prim.Native.Nat.{_<_}
 use mathlib.Core.Bool.{Bool, true, false, not, _&&_, false≢true}
 use mathlib.Core.Logic.{_⊎_, inl, inr}
 use mathlib.Core.Path.{_≡_, sym, ap, _∙_}
-use mathlib.Core.List.{List, Memᴰ·map, Memᴰ·of-map}
 use lib.Dec.{eqb, ltb}
-use lib.ListN.{length, getD, take}
 use borrow.Author.Tests.{eq-eqb, eqb-true, lt-ltb, ltb-true, not-true}
 use Rattle.terms.specs.declared.Row.{Row}
 use Rattle.terms.specs.declared.Rec.{Rec}
 use Rattle.terms.specs.Words.{committed, concurrent, done, isWrite, item, num, start, txn}
-use Rattle.rules.specs.Lists.{keep, upfrom}
+use Rattle.rules.specs.Lists.{keep}
 use Rattle.rules.specs.State.{State, wrote}
 use Rattle.rules.specs.Deps.{bothWrote}
 use Rattle.rules.specs.Sound.{unmixed}
-use Rattle.laws.proofs.Lists.{_∈_, all-in, all-out, and-both, and-left, and-right, any-in, any-out, both-ways, keep-in, keep-out, pairs-keep, passed}
+use Rattle.laws.proofs.Lists.{_∈_, and-both, and-left, and-right, any-in, any-out, keep-in, keep-out, pairs-keep, passed}
 use Rattle.laws.proofs.Keeping.{pairs-weaken}
 use Rattle.laws.proofs.Rows.{Ascend, concurrent-committed, pairs-out}
 use Rattle.sound.proofs.Standing.{Ranked}

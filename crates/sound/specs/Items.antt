@@ -1,17 +1,13 @@
 -- Sets of rows by row and by item, as words, and the sentences on items as tests of one record. Assumes nothing.
-use Prim.Native.Nat.{ℕ, suc, _-_, _<_}
-use mathlib.Core.Bool.{Bool, not, _&&_, _||_, cond}
-use mathlib.Core.Path.{_≡_}
+use Prim.Native.Nat.{ℕ, suc, _-_}
+use mathlib.Core.Bool.{Bool, _&&_, cond}
 use mathlib.Core.List.{List}
-use lib.Bits.{bitAnd}
 use lib.Count.{leadingZeros}
 use lib.Dec.{eqb, ltb}
 use lib.ListN.{getD}
 use Rattle.terms.specs.declared.Row.{Row}
-use Rattle.terms.specs.Words.{committed, done, isRead, isWrite, item, num, start, txn}
-use Rattle.rules.specs.Lists.{all, any, upfrom}
+use Rattle.terms.specs.Words.{committed, done, isWrite, item, num, start, txn}
 use Rattle.rules.specs.Raw.{unpack, zeroRow}
-use Rattle.graph.specs.Sets.{apart, member}
 
 -- the row at an index
 abbrev pub at : List Row → ℕ → Row

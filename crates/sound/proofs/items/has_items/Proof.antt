@@ -1,18 +1,13 @@
 -- `sound::items::has_items` meets its contract: `Passing`. Assumes nothing.
-use Prim.Native.Nat.{ℕ, _-_, _≤_}
+use Prim.Native.Nat.{ℕ, _-_}
 use native.Mathlib.Omega.{arith}
-use mathlib.Core.Bool.{Bool, not, _||_}
-use mathlib.Core.Path.{_≡_, refl, sym, ap, _∙_}
-use lib.Bits.{bitAnd}
-use lib.Dec.{eqb}
+use mathlib.Core.Path.{refl, sym, ap, _∙_}
 use lib.ListN.{getD}
 use borrow.Author.Needs.{needs}
 use borrow.Author.Tests.{not-false, not-true}
-use Rattle.terms.specs.Words.{isRead}
-use Rattle.rules.specs.Raw.{unpack}
 use Rattle.graph.specs.Fill.{Tabled}
 use Rattle.graph.specs.Sets.{member}
-use Rattle.sound.specs.Items.{earlierThan, newestOf}
+use Rattle.sound.specs.Items.{earlierThan}
 use Rattle.sound.proofs.Installing.{met-start}
 use Rattle.sound.proofs.Passing.{Passing, pass-read, pass-start, pass-write}
 use Rattle.sound.proofs.Telling.{items-mixed, items-passed, items-unseen, word-at}
@@ -81,10 +76,12 @@ loop-again c =
     let early = c .before .before .before .before .before .before .before .before .before .before .before .before .earlier .last .1 .1 .0 in
     let o = getD (a .owners .now) (k .j) 0 in
     let i = c .before .before .before .before .before .item-of in
-    let ended = c .before .before .is-unmixed .ensures .0 (not-false (c .before .before .is-unmixed .result) (c .before .if2 .left)) in
-    (rw (c .with .ensures) (pass-write 32 (a .used) (a .filed) (a .t1) (a .recs .now) (a .owners .now) early (search needs) (s .1) (s .5) (s .7) (s .9) (k .inv .1)
-    (k .wrote) (k .j) (k .inv .0 .met) (search needs) (a .numbers .now) (a .writers .now) (k .inv .0) (sym (c .before .before .before .before .is-install .ensures) ∙ c .before .before .before .if1 .taken)
-    (λ j h. ended j (ap (λ (e : ℕ). member (getD (k .wrote) e 0) j) (i .ensures) ∙ h)) (i .result) (i .ensures) (omega (arith, i .ensures))), k .inv .1)
+    let ended = c .before .before .is-unmixed .ensures .0 (not-false (c .before .before .is-unmixed .result) (c .before .if2 .left)) in (
+      rw (c .with .ensures) (pass-write 32 (a .used) (a .filed) (a .t1) (a .recs .now) (a .owners .now) early (search needs) (s .1) (s .5) (s .7) (s .9) (k .inv .1)
+          (k .wrote) (k .j) (k .inv .0 .met) (search needs) (a .numbers .now) (a .writers .now) (k .inv .0) (sym (c .before .before .before .before .is-install .ensures) ∙ c .before .before .before .if1 .taken)
+          (λ j h. ended j (ap (λ (e : ℕ). member (getD (k .wrote) e 0) j) (i .ensures) ∙ h)) (i .result) (i .ensures) (omega (arith, i .ensures))),
+      k .inv .1,
+    )
 
 returns-2 : tie.Need-returns-2 Inv-loop μ-loop
 returns-2 c =
@@ -108,9 +105,11 @@ loop-again-2 c =
     let o = getD (a .owners .now) (k .j) 0 in
     let p = getD (a .recs .now) (k .j) 0 in
     let i = c .before .before .before .before .before .before .item-of in
-    let test = c .before .is-seen .ensures ∙ word-at p (a .numbers .now) (a .writers .now) (k .wrote) (getD early o 0) (c .before .before .before .both .ensures) (i .ensures) in
-    (pass-read 32 (a .used) (a .filed) (a .t1) (a .recs .now) (a .owners .now) early (search needs) (s .1) (s .5) (s .7) (s .9) (k .inv .1)
-    (k .wrote) (k .j) (k .inv .0 .met) (search needs) (a .numbers .now) (a .writers .now) (k .inv .0) (sym (c .before .before .before .before .before .is-install .ensures) ∙ c .before .before .before .before .if1 .left) (sym test ∙ not-false (c .before .is-seen .result) (c .if3 .left)), k .inv .1)
+    let test = c .before .is-seen .ensures ∙ word-at p (a .numbers .now) (a .writers .now) (k .wrote) (getD early o 0) (c .before .before .before .both .ensures) (i .ensures) in (
+      pass-read 32 (a .used) (a .filed) (a .t1) (a .recs .now) (a .owners .now) early (search needs) (s .1) (s .5) (s .7) (s .9) (k .inv .1)
+          (k .wrote) (k .j) (k .inv .0 .met) (search needs) (a .numbers .now) (a .writers .now) (k .inv .0) (sym (c .before .before .before .before .before .is-install .ensures) ∙ c .before .before .before .before .if1 .left) (sym test ∙ not-false (c .before .is-seen .result) (c .if3 .left)),
+      k .inv .1,
+    )
 
 returns-3 : tie.Need-returns-3 Inv-loop μ-loop
 returns-3 c =

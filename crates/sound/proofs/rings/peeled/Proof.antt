@@ -23,9 +23,13 @@ loop-again c =
     let g = c .before .before .before .before .before .before .before .before .args .g .now in
     let k = c .before .before .before .before .before .before .loop in
     let o = c .before .with in
-    let less = and-le-l (k .left) (2 ^ 32 - 1 - o .result) in
-    (peel-off (edges g) (k .inv .0) (k .i - 1) (omega arith) (member (c .without .result)) (without-one 32 (k .left) (k .i - 1) (o .result) (k .inv .2) (search needs) (o .ensures) (c .without .ensures))
-    (none-into 32 g (k .i - 1) (k .left) (k .inv .2) (sym (c .before .before .if1 .taken) ∙ c .before .before .before .are-apart .ensures)), omega (arith, k .inv .1, c .without .ensures, less), omega (arith, k .inv .2, c .without .ensures, less), omega (arith, k .inv .3))
+    let less = and-le-l (k .left) (2 ^ 32 - 1 - o .result) in (
+      peel-off (edges g) (k .inv .0) (k .i - 1) (omega arith) (member (c .without .result)) (without-one 32 (k .left) (k .i - 1) (o .result) (k .inv .2) (search needs) (o .ensures) (c .without .ensures))
+          (none-into 32 g (k .i - 1) (k .left) (k .inv .2) (sym (c .before .before .if1 .taken) ∙ c .before .before .before .are-apart .ensures)),
+      omega (arith, k .inv .1, c .without .ensures, less),
+      omega (arith, k .inv .2, c .without .ensures, less),
+      omega (arith, k .inv .3),
+    )
 
 loop-again-2 : tie.Need-loop-again-2 Inv-loop μ-loop
 loop-again-2 c =
