@@ -5,7 +5,7 @@ use native.Mathlib.Nat.{add-zero, zero-add}
 use mathlib.Core.Bool.{Bool, true, false, _&&_, and-false, and-true}
 use mathlib.Core.Path.{_≡_, refl, sym, ap, _∙_}
 use mathlib.Core.List.{List}
-use lib.ListN.{length, getD, take, drop, length-take}
+use lib.ListN.{length, getD, take, drop, length-take, drop-of-length-le}
 use Rattle.rules.specs.Lists.{all, keep, pairs}
 use Rattle.lists.proofs.Keeps.{put}
 use Rattle.lists.proofs.Scans.{Going, go-next, go-done, part-next, part-here, part-done}
@@ -84,3 +84,10 @@ module _ {A : Type 0} where
 
       pub facing-done : i ≤ n → n ≤ j → Going (take n xs) (pairs q) v i
       facing-done b l = record { at-most = omega (arith, length-take n xs); same = part-done n xs h s l }
+
+      -- all that is left passes with a
+      pub facing-rest : all (q a) (drop j (take n xs)) ≡ true → Going (take n xs) (facing q (take n xs) a i) v n
+      facing-rest e = let end : length (take n xs) ≤ n = omega (arith, length-take n xs) in record {
+        at-most = omega (arith, length-take n xs);
+        same = ap (facing q (take n xs) a i) (drop-of-length-le (take n xs) end) ∙ ap (λ (b : Bool). b && pairs q (drop i (take n xs))) (sym e) ∙ s .same;
+      }
