@@ -132,7 +132,7 @@ fn meet(tab: &mut [Set], part: &[u64], t: u32, at: usize) -> Others
 }
 
 // Joins to `before` the rows of a set that ended before a moment.
-fn past(ends: &[u32], touched: Set, before: Set, m: u32) -> Set
+pub fn past(ends: &[u32], touched: Set, before: Set, m: u32) -> Set
     requires { do ⌜ length (now ends) ≡ (← ⟦ROWS⟧) ⌝ }
     ensures { λ r. ⌜ ((j : ℕ) → member r j ≡ (member before j || (member touched j && ltb (getD (now (ends .entry)) j 0) m))) ⌝ }
 {

@@ -2,24 +2,23 @@
 use Prim.Native.Nat.{ℕ, zero, suc, _+_, _^_, _≤_, _<_}
 use native.Mathlib.Omega.{arith}
 use native.Mathlib.Decide.{ℕ-discrete}
-use native.Mathlib.Numerals.{add-one}
-use mathlib.Core.Bool.{Bool, true, false, _&&_, _||_, or-false}
+use mathlib.Core.Bool.{Bool, true, false, _&&_, _||_, or-false, false≢true}
+use mathlib.Core.Logic.{_⊎_, inl, inr}
 use mathlib.Core.Path.{_≡_, refl, sym, ap, _∙_}
 use mathlib.Core.List.{List}
 use lib.Bits.{bitOr}
 use lib.Dec.{eqb, ltb}
-use lib.ListN.{length, getD, set, take, drop, replicate, length-replicate, length-set, length-take, drop-of-length-le}
-use lib.Seq.{drop-cons, getD-take, getD-set-same, getD-set-other}
+use lib.ListN.{length, getD, set, take, replicate, length-replicate, length-set}
+use lib.Seq.{getD-set-same, getD-set-other}
 use borrow.Author.Tests.{eq-eqb, eqb-true, lt-ltb, ltb-true, ne-eqb}
 use Rattle.terms.specs.declared.Row.{Row}
 use Rattle.terms.specs.Words.{committed, isWrite, item, num, txn}
-use Rattle.rules.specs.Lists.{any}
 use Rattle.rules.specs.Raw.{unpack}
-use Rattle.laws.proofs.Lists.{and-both, and-left, and-right, both-ways}
+use Rattle.laws.proofs.Lists.{and-both, and-left, and-right, both-ways, or-cases, or-left, or-right}
 use Rattle.laws.proofs.Rows.{Ascend}
 use Rattle.graph.specs.Sets.{member}
 use Rattle.graph.proofs.Sets.{member-with, member-zero}
-use Rattle.sound.specs.Items.{Installers, at, installs, isInstall}
+use Rattle.sound.specs.Items.{at, installs, isInstall}
 use Rattle.sound.proofs.Places.{row-one}
 
 -- the record is of the row at i: it is installed by that row, or by none
@@ -43,57 +42,49 @@ module _ (n : ℕ) (rs : List Row) (h : n ≤ length rs) (asc : Ascend (take n r
       and-both _ _ (and-both _ _ (lt-ltb j n (omega arith)) (ap (λ (k : ℕ). committed (at rs k)) (sym same) ∙ and-right (isWrite (unpack p)) _ a))
       (and-both _ _ (eq-eqb _ _ (ap (λ (k : ℕ). num (at rs k)) (sym same) ∙ own)) (and-both _ _ (and-left (eqb (item (unpack p)) e) _ b) (and-left (isWrite (unpack p)) (committed (at rs i)) a))))
 
--- k of the first m records are in the index
-pub record Installing (w n m : ℕ) (rs : List Row) (ps tab : List ℕ) (k : ℕ) : Type 0 where
-  pub len : length tab ≡ w
-  pub same : (e j : ℕ) → e < w → (member (getD tab e 0) j || any (installs n rs e j) (drop k (take m ps))) ≡ any (installs n rs e j) (take m ps)
+-- the first k records are in the index, and nothing else
+pub record Met (n : ℕ) (rs : List Row) (ps tab : List ℕ) (k : ℕ) : Type 0 where
+  pub len : length tab ≡ 256
+  pub into : (t e j : ℕ) → t < k → e < 256 → installs n rs e j (getD ps t 0) ≡ true → member (getD tab e 0) j ≡ true
+  pub from : (e j : ℕ) → e < 256 → member (getD tab e 0) j ≡ true → (t : ℕ) × (t < k) × (installs n rs e j (getD ps t 0) ≡ true)
 
 getD-zeros : (n e : ℕ) → _≡_ {A = ℕ} (getD {A = ℕ} (replicate n 0) e 0) 0
 getD-zeros zero e = refl
 getD-zeros (suc n) zero = refl
 getD-zeros (suc n) (suc e) = getD-zeros n e
 
-or-shift : (a b c : Bool) → ((a || b) || c) ≡ (a || (b || c))
-or-shift true b c = refl
-or-shift false b c = refl
-
-pub install-start : (w n m : ℕ) (rs : List Row) (ps tab : List ℕ) → tab ≡ replicate w 0 → Installing w n m rs ps tab 0
-install-start w n m rs ps tab z =
+pub met-start : (n : ℕ) (rs : List Row) (ps tab : List ℕ) → tab ≡ replicate 256 0 → Met n rs ps tab 0
+met-start n rs ps tab z =
     record {
-      len = ap length z ∙ length-replicate w 0;
-      same = λ e j l. ap (λ (b : Bool). b || any (installs n rs e j) (take m ps)) (ap (λ (t : List ℕ). member (getD t e 0) j) z ∙ ap (λ (k : ℕ). member k j) (getD-zeros w e) ∙ member-zero j);
+      len = ap length z ∙ length-replicate {A = ℕ} 256 0;
+      into = λ t e j l. absurd (omega arith);
+      from = λ e j l h. absurd (false≢true (sym (ap (λ (t : List ℕ). member (getD t e 0) j) z ∙ ap (λ (k : ℕ). member k j) (getD-zeros 256 e) ∙ member-zero j) ∙ h));
     }
 
-module _ (w n m : ℕ) (rs : List Row) (ps : List ℕ) (h : n ≤ length rs) (asc : Ascend (take n rs)) (hm : m ≤ length ps) (tab : List ℕ) (k i : ℕ)
-    (s : Installing w n m rs ps tab k) (lk : k < m) (l : i < n) (own : num (at rs i) ≡ txn (unpack (getD ps k 0))) where
-  abbrev p : ℕ
-  p = getD ps k 0
+module _ (n : ℕ) (rs : List Row) (ps : List ℕ) (h : n ≤ length rs) (asc : Ascend (take n rs)) (tab : List ℕ) (k i : ℕ)
+    (s : Met n rs ps tab k) (l : i < n) (own : num (at rs i) ≡ txn (unpack (getD ps k 0))) where
+  here : (e j : ℕ) → installs n rs e j (getD ps k 0) ≡ (isInstall (getD ps k 0) (at rs i) && (eqb (item (unpack (getD ps k 0))) e && eqb i j))
+  here e j = installs-is n rs h asc i (getD ps k 0) l own e j
 
-  opened : (e j : ℕ) → any (installs n rs e j) (drop k (take m ps)) ≡ ((isInstall (getD ps k 0) (at rs i) && (eqb (item (unpack (getD ps k 0))) e && eqb i j)) || any (installs n rs e j) (drop (k + 1) (take m ps)))
-  opened e j =
-      ap (any (installs n rs e j)) (drop-cons (take m ps) k 0 (omega (arith, length-take m ps)))
-      ∙ (λ z. installs n rs e j (getD-take m ps k 0 lk z) || any (installs n rs e j) (drop (sym (add-one k) z) (take m ps)))
-      ∙ ap (λ (b : Bool). b || any (installs n rs e j) (drop (k + 1) (take m ps))) (installs-is n rs h asc i (getD ps k 0) l own e j)
-
-  pub install-skip : isInstall (getD ps k 0) (at rs i) ≡ false → Installing w n m rs ps tab (k + 1)
-  install-skip f =
+  pub met-skip : isInstall (getD ps k 0) (at rs i) ≡ false → Met n rs ps tab (k + 1)
+  met-skip f =
       record {
         len = s .len;
-        same = λ e j q.
-            ap (λ (b : Bool). member (getD tab e 0) j || ((b && (eqb (item (unpack (getD ps k 0))) e && eqb i j)) || any (installs n rs e j) (drop (k + 1) (take m ps)))) (sym f)
-            ∙ ap (λ (b : Bool). member (getD tab e 0) j || b) (sym (opened e j)) ∙ s .same e j q;
+        into = λ t e j b q g. old t e j q g b (ℕ-discrete t k);
+        from = λ e j q g. let u = s .from e j q g in (u .0, omega (arith, u .1), u .2);
       }
+    where
+      old : (t e j : ℕ) → e < 256 → installs n rs e j (getD ps t 0) ≡ true → t < k + 1 → Dec (t ≡ k) → member (getD tab e 0) j ≡ true
+      old t e j q g b (yes z) = absurd (false≢true (sym f ∙ and-left _ _ (sym (here e j) ∙ ap (λ (y : ℕ). installs n rs e j (getD ps y 0)) (sym z) ∙ g)))
+      old t e j q g b (no z) = s .into t e j (omega arith) q g
 
-  pub install-put : isInstall (getD ps k 0) (at rs i) ≡ true → (x : ℕ) → x ≡ item (unpack (getD ps k 0)) → x < w
-      → Installing w n m rs ps (set tab x (bitOr (getD tab x 0) (2 ^ i))) (k + 1)
-  install-put f x ex lx =
+  pub met-put : isInstall (getD ps k 0) (at rs i) ≡ true → (x : ℕ) → x ≡ item (unpack (getD ps k 0)) → x < 256
+      → Met n rs ps (set tab x (bitOr (getD tab x 0) (2 ^ i))) (k + 1)
+  met-put f x ex lx =
       record {
         len = length-set tab x (bitOr (getD tab x 0) (2 ^ i)) ∙ s .len;
-        same = λ e j q.
-            ap (λ (b : Bool). b || any (installs n rs e j) (drop (k + 1) (take m ps))) (put e j (ℕ-discrete e x))
-            ∙ or-shift (member (getD tab e 0) j) (eqb (item (unpack (getD ps k 0))) e && eqb i j) (any (installs n rs e j) (drop (k + 1) (take m ps)))
-            ∙ ap (λ (b : Bool). member (getD tab e 0) j || ((b && (eqb (item (unpack (getD ps k 0))) e && eqb i j)) || any (installs n rs e j) (drop (k + 1) (take m ps)))) (sym f)
-            ∙ ap (λ (b : Bool). member (getD tab e 0) j || b) (sym (opened e j)) ∙ s .same e j q;
+        into = λ t e j b q g. put e j (ℕ-discrete e x) ∙ new t e j q g b (ℕ-discrete t k);
+        from = λ e j q g. old e j q (or-cases (member (getD tab e 0) j) _ (sym (put e j (ℕ-discrete e x)) ∙ g));
       }
     where
       put : (e j : ℕ) → Dec (e ≡ x) → member (getD (set tab x (bitOr (getD tab x 0) (2 ^ i))) e 0) j ≡ (member (getD tab e 0) j || (eqb (item (unpack (getD ps k 0))) e && eqb i j))
@@ -106,9 +97,10 @@ module _ (w n m : ℕ) (rs : List Row) (ps : List ℕ) (h : n ≤ length rs) (as
           ap (λ (y : ℕ). member y j) (getD-set-other tab x e (bitOr (getD tab x 0) (2 ^ i)) 0 z)
           ∙ sym (ap (λ (b : Bool). member (getD tab e 0) j || (b && eqb i j)) (ne-eqb (item (unpack (getD ps k 0))) e (λ q. z (sym q ∙ sym ex))) ∙ or-false (member (getD tab e 0) j))
 
-pub install-done : (w n m : ℕ) (rs : List Row) (ps tab : List ℕ) (k : ℕ) → m ≤ k → Installing w n m rs ps tab k → Installers w n rs (take m ps) tab
-install-done w n m rs ps tab k l s =
-    let past : length (take m ps) ≤ k = omega (arith, length-take m ps) in
-    record {
-      is = λ e j q. sym (or-false (member (getD tab e 0) j)) ∙ ap (λ (ys : List ℕ). member (getD tab e 0) j || any (installs n rs e j) ys) (sym (drop-of-length-le (take m ps) past)) ∙ s .same e j q;
-    }
+      new : (t e j : ℕ) → e < 256 → installs n rs e j (getD ps t 0) ≡ true → t < k + 1 → Dec (t ≡ k) → (member (getD tab e 0) j || (eqb (item (unpack (getD ps k 0))) e && eqb i j)) ≡ true
+      new t e j q g b (yes z) = or-right (member (getD tab e 0) j) _ (and-right (isInstall (getD ps k 0) (at rs i)) _ (sym (here e j) ∙ ap (λ (y : ℕ). installs n rs e j (getD ps y 0)) (sym z) ∙ g))
+      new t e j q g b (no z) = or-left _ _ (s .into t e j (omega arith) q g)
+
+      old : (e j : ℕ) → e < 256 → (member (getD tab e 0) j ≡ true) ⊎ ((eqb (item (unpack (getD ps k 0))) e && eqb i j) ≡ true) → (t : ℕ) × (t < k + 1) × (installs n rs e j (getD ps t 0) ≡ true)
+      old e j q (inl g) = let u = s .from e j q g in (u .0, omega (arith, u .1), u .2)
+      old e j q (inr g) = (k, omega arith, here e j ∙ and-both _ _ f g)

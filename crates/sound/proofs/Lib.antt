@@ -7,14 +7,16 @@ pub mod RowSentences
 pub mod Filed
 pub mod Merging
 pub mod Search
-pub mod Spans
 pub mod Places
 pub mod Installing
 pub mod ItemTests
+pub mod Earlier
+pub mod Passing
 pub mod Standing
 pub mod Unmixing
 pub mod Seeing
 pub mod Telling
 pub mod Tested
+pub mod Peeling
 pub mod Ringing
 pub mod Sounding

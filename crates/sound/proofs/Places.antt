@@ -2,15 +2,21 @@
 use Prim.Native.Nat.{ℕ, zero, suc, _≤_, _<_}
 use native.Mathlib.Omega.{arith}
 use native.Mathlib.Decide.{decLt}
+use mathlib.Core.Bool.{Bool, true}
 use mathlib.Core.Path.{_≡_, refl, sym, ap, subst, _∙_}
 use mathlib.Core.List.{List, [], _∷_, map, List·Memᴰ·head, List·Memᴰ·tail}
+use lib.Dec.{ltb}
 use lib.ListN.{length, getD, take, length-map, length-take}
 use lib.Seq.{getD-take}
+use borrow.Author.Tests.{ltb-true}
 use Rattle.terms.specs.declared.Row.{Row}
-use Rattle.terms.specs.Words.{num}
-use Rattle.laws.proofs.Lists.{_∈_}
+use Rattle.terms.specs.Words.{num, start}
+use Rattle.rules.specs.Lists.{all, pairs}
+use Rattle.rules.specs.Raw.{zeroRow}
+use Rattle.laws.proofs.Lists.{_∈_, all-out, and-left, and-right}
 use Rattle.laws.proofs.Rows.{Ascend, pairs-num}
 use Rattle.sound.specs.Items.{at}
+use Rattle.sound.specs.Rows.{rises}
 use Rattle.sound.proofs.Search.{ascend-at}
 
 -- what stands in a list stands at an index, and what stands at an index in the list
@@ -22,6 +28,19 @@ pub stands-at : {A : Type 0} (d : A) (xs : List A) (i : ℕ) → i < length xs �
 stands-at d [] i l = absurd (omega arith)
 stands-at d (x ∷ xs) zero l = List·Memᴰ·head refl
 stands-at d (x ∷ xs) (suc i) l = List·Memᴰ·tail (stands-at d xs i (omega arith))
+
+-- what holds of each with every later one holds by index
+pub pairs-at : {A : Type 0} (f : A → A → Bool) (d : A) (xs : List A) → pairs f xs ≡ true → (i j : ℕ) → i < j → j < length xs → f (getD xs i d) (getD xs j d) ≡ true
+pairs-at f d [] o i j l b = absurd (omega arith)
+pairs-at f d (x ∷ xs) o zero zero l b = absurd (omega arith)
+pairs-at f d (x ∷ xs) o zero (suc j) l b = all-out (f x) (stands-at d xs j (omega arith)) (and-left _ _ o)
+pairs-at f d (x ∷ xs) o (suc i) zero l b = absurd (omega arith)
+pairs-at f d (x ∷ xs) o (suc i) (suc j) l b = pairs-at f d xs (and-right (all (f x) xs) _ o) i j (omega arith) (omega arith)
+
+pub start-at : (n : ℕ) (rs : List Row) → n ≤ length rs → rises (take n rs) ≡ true → (i j : ℕ) → i < j → j < n → start (at rs i) < start (at rs j)
+start-at n rs h r i j l b =
+    let q = pairs-at (λ a b. ltb (start a) (start b)) zeroRow (take n rs) r i j l (omega (arith, length-take n rs)) in
+    omega (arith, ltb-true (start (at (take n rs) i)) (start (at (take n rs) j)) q, ap start (getD-take n rs i zeroRow (omega arith)), ap start (getD-take n rs j zeroRow b))
 
 -- the same of the first n
 module _ {A : Type 0} (d : A) (n : ℕ) (xs : List A) (h : n ≤ length xs) where

@@ -16,16 +16,16 @@ use Rattle.rules.specs.Sound.{lean, tested}
 use Rattle.rules.specs.Spent.{isSpent}
 use Rattle.laws.proofs.Lists.{T-in, T-out, _∈_, all-in, all-out, and-left, any-in, any-out, both-ways, mem-out}
 use Rattle.laws.proofs.Rings.{ring-decides}
-use Rattle.laws.proofs.Tables.{mem-upfrom}
 use Rattle.theory.specs.Edges.{edges}
 use Rattle.theory.proofs.EdgesRings.{rings-same}
 use Rattle.theory.proofs.EdgesSame.{edges-out}
 use Rattle.theory.proofs.Facts.{Facts, facts-of}
 use Rattle.graph.specs.Reach.{ringed}
 use Rattle.graph.specs.Sets.{edges as inTable, member}
+use Rattle.graph.proofs.Reachable.{ringed-is}
 use Rattle.graph.proofs.Sets.{member-zero}
 use Rattle.edges.proofs.Rowed.{place-of}
-use Rattle.edges.proofs.Ways.{ringed-at}
+use Rattle.edges.proofs.Ways.{bound, ends, ringed-at}
 use Rattle.sound.specs.Items.{at}
 use Rattle.sound.proofs.Seeing.{set-small}
 use Rattle.sound.proofs.Standing.{in-upfrom}
@@ -38,19 +38,20 @@ module _ (s : State) (h : tested s ≡ true) where
   facts = facts-of s h
 
   module _ (g : List ℕ) (e : (i j : ℕ) → inTable g i j ≡ edges s (num (at (s .rows) i)) (num (at (s .rows) j))) (w : ℕ) (room : length (s .rows) ≤ w) where
-    pub ring-is : any (ringed w (inTable g)) (upfrom 0 (length (s .rows))) ≡ ring s
+    pub ring-is : any (ringed w (inTable g)) (upfrom 0 w) ≡ ring s
     ring-is = both-ways _ _ there back
       where
-        there : any (ringed w (inTable g)) (upfrom 0 (length (s .rows))) ≡ true → ring s ≡ true
+        there : any (ringed w (inTable g)) (upfrom 0 w) ≡ true → ring s ≡ true
         there t =
-            let u = any-out (ringed w (inTable g)) (upfrom 0 (length (s .rows))) t in
-            ring-decides s .1 (rings-same s h .1 (N (u .0), ringed-at s facts g e w room (u .0) (omega (arith, mem-upfrom 0 (length (s .rows)) (u .1))) .0 (T-in (u .2))))
+            let u = any-out (ringed w (inTable g)) (upfrom 0 w) t in
+            let r = ringed-is w (inTable g) (bound s facts g e w room) (u .0) .0 (T-in (u .2)) in
+            ring-decides s .1 (rings-same s h .1 (N (u .0), ringed-at s facts g e w room (u .0) (ends s facts g e (u .0) (r .0) (r .1) .0) .0 (T-in (u .2))))
 
-        back : ring s ≡ true → any (ringed w (inTable g)) (upfrom 0 (length (s .rows))) ≡ true
+        back : ring s ≡ true → any (ringed w (inTable g)) (upfrom 0 w) ≡ true
         back t =
             let c = rings-same s h .0 (ring-decides s .0 t) in
             let i = place-of s facts (edges-out s (c .0) (c .1 .0) (c .1 .1) .0) in
-            any-in (ringed w (inTable g)) (in-upfrom 0 (length (s .rows)) (i .0) (omega arith) (omega (arith, i .1)))
+            any-in (ringed w (inTable g)) (in-upfrom 0 w (i .0) (omega arith) (omega (arith, i .1)))
             (T-out _ (ringed-at s facts g e w room (i .0) (i .1) .1 (subst (λ (k : ℕ). Reaches (edges s) k k) (sym (i .2)) (c .1))))
 
   spent-commit : (t : ℕ) → isSpent s t ≡ true → t ∈ commits s

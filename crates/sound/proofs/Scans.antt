@@ -2,18 +2,32 @@
 use Prim.Native.Nat.{ℕ, _+_, _≤_, _<_}
 use native.Mathlib.Omega.{arith}
 use native.Mathlib.Nat.{add-zero, zero-add}
-use mathlib.Core.Bool.{Bool, true, false, _&&_, _||_}
+use mathlib.Core.Bool.{Bool, true, false, _&&_, and-false, and-true}
 use mathlib.Core.Path.{_≡_, refl, sym, ap, _∙_}
 use mathlib.Core.List.{List}
-use lib.ListN.{length, getD, take, drop, length-take}
-use Rattle.rules.specs.Lists.{all, any, keep, pairs, upfrom}
+use lib.ListN.{length, getD, take, drop, length-take, drop-of-length-le}
+use Rattle.rules.specs.Lists.{all, keep, pairs}
 use Rattle.lists.proofs.Keeps.{put}
-use Rattle.lists.proofs.Scans.{Going, count-next, count-here, count-done, part-next, part-here, part-done}
+use Rattle.lists.proofs.Scans.{Going, go-next, go-done, part-next, part-here, part-done}
 
 module _ {A : Type 0} where
   -- what is left is what is asked for
   pub all-from : {p : A → Bool} {xs : List A} {j : ℕ} → j ≤ length xs → Going xs (all p) (all p (drop j xs)) j
   all-from h = record { at-most = h; same = refl }
+
+  -- ---- all, with no way out: b so far, and what the rest adds
+  abbrev pub still : (A → Bool) → Bool → List A → Bool
+  still p b ys = b && all p ys
+
+  module _ (p : A → Bool) (b : Bool) {xs : List A} {v : Bool} {j : ℕ} (s : Going xs (still p b) v j) where
+    pub still-next : (d : A) → j < length xs → p (getD xs j d) ≡ true → Going xs (still p b) v (j + 1)
+    still-next d l e = go-next s d (still p b) l (λ ys. ap (λ (t : Bool). b && (t && all p ys)) e)
+
+    pub still-shut : (d : A) → j < length xs → p (getD xs j d) ≡ false → Going xs (still p false) v (j + 1)
+    still-shut d l e = go-next s d (still p false) l (λ ys. ap (λ (t : Bool). b && (t && all p ys)) e ∙ and-false b)
+
+    pub still-end : length xs ≤ j → b ≡ v
+    still-end l = sym (and-true b) ∙ go-done s l
 
   -- ---- all of the first n
   module _ (p : A → Bool) (n : ℕ) (xs : List A) (h : n ≤ length xs) {v : Bool} {j : ℕ} (s : Going (take n xs) (all p) v j) where
@@ -71,24 +85,9 @@ module _ {A : Type 0} where
       pub facing-done : i ≤ n → n ≤ j → Going (take n xs) (pairs q) v i
       facing-done b l = record { at-most = omega (arith, length-take n xs); same = part-done n xs h s l }
 
--- ---- all numbers below n
-module _ (p : ℕ → Bool) (n : ℕ) {v : Bool} {j : ℕ} (s : Going (upfrom 0 n) (all p) v j) where
-  pub every-next : j < n → p j ≡ true → Going (upfrom 0 n) (all p) v (j + 1)
-  every-next l e = count-next n s (all p) l (λ ys. ap (λ (b : Bool). b && all p ys) e)
-
-  pub every-here : j < n → p j ≡ false → false ≡ v
-  every-here l e = count-here n s l (λ ys. ap (λ (b : Bool). b && all p ys) e)
-
-  pub every-end : n ≤ j → true ≡ v
-  every-end l = count-done n s l
-
--- ---- some number below n
-module _ (p : ℕ → Bool) (n : ℕ) {v : Bool} {j : ℕ} (s : Going (upfrom 0 n) (any p) v j) where
-  pub some-next : j < n → p j ≡ false → Going (upfrom 0 n) (any p) v (j + 1)
-  some-next l e = count-next n s (any p) l (λ ys. ap (λ (b : Bool). b || any p ys) e)
-
-  pub some-here : j < n → p j ≡ true → true ≡ v
-  some-here l e = count-here n s l (λ ys. ap (λ (b : Bool). b || any p ys) e)
-
-  pub some-end : n ≤ j → false ≡ v
-  some-end l = count-done n s l
+      -- all that is left passes with a
+      pub facing-rest : all (q a) (drop j (take n xs)) ≡ true → Going (take n xs) (facing q (take n xs) a i) v n
+      facing-rest e = let end : length (take n xs) ≤ n = omega (arith, length-take n xs) in record {
+        at-most = omega (arith, length-take n xs);
+        same = ap (facing q (take n xs) a i) (drop-of-length-le (take n xs) end) ∙ ap (λ (b : Bool). b && pairs q (drop i (take n xs))) (sym e) ∙ s .same;
+      }

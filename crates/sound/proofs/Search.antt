@@ -76,6 +76,13 @@ module _ (n w : ℕ) (xs : List ℕ) (h : n ≤ length xs) where
       go k b e (yes q) = omega (arith, s .below k q)
       go k b e (no q) = omega (arith, s .above k (omega arith) b)
 
+  -- a number below the first of them, and one among none
+  pub below-first : pairs ltb (take n xs) ≡ true → 0 < n → w < getD xs 0 0 → false ≡ mem w (take n xs)
+  below-first o l b = search-none (search-high o (search-start n w xs) 0 (omega arith) l b) (omega arith)
+
+  pub among-none : n ≡ 0 → false ≡ mem w (take n xs)
+  among-none e = search-none (search-start n w xs) (omega arith)
+
 -- ---- the numbers of the first rows, written one by one
 pub numbers-next : (rs : List Row) (out : List ℕ) (j : ℕ) → j < length rs → j < length out → take j out ≡ map num (take j rs)
     → take (j + 1) (set out j (num (getD rs j zeroRow))) ≡ map num (take (j + 1) rs)

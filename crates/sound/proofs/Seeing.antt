@@ -3,37 +3,35 @@ use Prim.Native.Nat.{ℕ, zero, suc, _^_, _≤_, _<_}
 use native.Mathlib.Omega.{arith}
 use native.Mathlib.Decide.{decLt, ℕ-discrete}
 use native.Mathlib.Nat.{pow-suc}
-use mathlib.Core.Bool.{Bool, true, false, not, _||_, cond, false≢true}
+use mathlib.Core.Bool.{Bool, true, false, not, _&&_, _||_, cond, false≢true}
 use mathlib.Core.Logic.{_⊎_, inl, inr}
 use mathlib.Core.Path.{_≡_, sym, ap, _∙_}
-use mathlib.Core.List.{List, map, Memᴰ·map, Memᴰ·of-map}
-use lib.Bits.{bitAnd}
+use mathlib.Core.List.{List}
 use lib.Dec.{eqb}
 use lib.ListN.{length, getD, take}
 use lib.Count.{leading-top}
 use lib.Pow.{pow-mono, pow-pos}
-use borrow.Author.Tests.{eq-eqb, lt-ltb, ltb-true, ne-eqb}
+use borrow.Author.Tests.{eq-eqb, ne-eqb}
 use Rattle.terms.specs.declared.Row.{Row}
 use Rattle.terms.specs.declared.Rec.{Rec}
 use Rattle.terms.specs.Words.{committed, done, isRead, item, num, start, txn, writer}
-use Rattle.rules.specs.Lists.{upfrom}
+use Rattle.rules.specs.Lists.{any}
 use Rattle.rules.specs.State.{State, rowOf, startOf, wrote}
 use Rattle.rules.specs.Versions.{versionAt, visible}
-use Rattle.rules.specs.Sound.{seen, unmixed}
+use Rattle.rules.specs.Sound.{unmixed}
 use Rattle.rules.specs.Raw.{unpack, zeroRow}
-use Rattle.laws.proofs.Lists.{all-in, all-out, and-both, and-left, and-right, both-ways}
+use Rattle.laws.proofs.Lists.{and-both, and-left, and-right}
 use Rattle.laws.proofs.Rows.{row-found}
-use Rattle.laws.proofs.Tables.{mem-upfrom}
 use Rattle.laws.proofs.Versions.{Installed, Unwritten, Writer, recorded-out, stands, writer-in}
-use Rattle.graph.specs.Fill.{Tabled}
-use Rattle.graph.specs.Sets.{edges, member}
-use Rattle.graph.proofs.Sets.{member-and, member-zero}
-use Rattle.sound.specs.Items.{Installers, at, earlierThan, names, namesAll, newestOf, top}
+use Rattle.graph.specs.Sets.{member}
+use Rattle.graph.proofs.Sets.{member-zero}
+use Rattle.sound.specs.Items.{at, earlierThan, installs, newestOf, top}
 use Rattle.sound.specs.Parts.{held}
 use Rattle.sound.specs.Records.{Owners}
-use Rattle.sound.proofs.ItemTests.{names-other, names-read, top-in, top-last}
+use Rattle.sound.proofs.Earlier.{earlier-in, earlier-out}
+use Rattle.sound.proofs.ItemTests.{top-in, top-last}
 use Rattle.sound.proofs.Places.{in-index, index-in, row-rising}
-use Rattle.sound.proofs.Standing.{Ranked, in-upfrom, installs-in, installs-out, start-rising}
+use Rattle.sound.proofs.Standing.{Ranked, installs-in, installs-out, start-rising}
 use Rattle.sound.proofs.Unmixing.{clashless}
 
 -- a number is below its power of two; so a set whose members are below w is
@@ -50,19 +48,20 @@ set-small w (suc m) h =
     let l : u .0 < w = h (u .0) (ap (member (suc m)) (sym same) ∙ t) in
     omega (arith, u .3, pow-mono l)
 
-module _ (w count next moment n m : ℕ) (vs ws writers numbers : List ℕ) (rs : List Row) (ps os inst early : List ℕ) (hn : n ≤ length rs) (hm : m ≤ length ps) (few : n ≤ w)
+-- the sentence on read words, of one record
+abbrev pub sees : State → Rec → Bool
+sees s x = not (isRead x) || eqb (x .word) (writer (visible s (txn x) (item x)))
+
+module _ (w count next moment n m : ℕ) (vs ws writers numbers : List ℕ) (rs : List Row) (ps os : List ℕ) (hn : n ≤ length rs) (hm : m ≤ length ps) (few : n ≤ w)
     (k : Ranked (held count next moment vs ws (take n rs) (take m ps))) (un : unmixed (held count next moment vs ws (take n rs) (take m ps)) ≡ true)
-    (own : Owners n m rs ps os) (ins : Installers 256 n rs (take m ps) inst) (ea : Tabled n early (earlierThan rs))
+    (own : Owners n m rs ps os)
     (nums : (i : ℕ) → i < n → getD numbers i 0 ≡ num (at rs i))
     (bases : (t : ℕ) → t < m → getD ws (item (unpack (getD ps t 0))) 0 ≡ getD writers (item (unpack (getD ps t 0))) 0) where
   abbrev S : State
   S = held count next moment vs ws (take n rs) (take m ps)
 
-  early-at : (i j : ℕ) → i < n → j < n → member (getD early i 0) j ≡ earlierThan rs i j
-  unfolding edges
-  early-at i j a b = ea .is i j a b
-
-  module _ (t : ℕ) (lt : t < m) where
+  -- M has the item's writers that ended before the record's row started
+  module _ (t : ℕ) (lt : t < m) (M : ℕ) (is : (j : ℕ) → member M j ≡ (any (installs n rs (item (unpack (getD ps t 0))) j) (take m ps) && earlierThan rs (getD os t 0) j)) where
     abbrev p : ℕ
     p = getD ps t 0
 
@@ -72,25 +71,21 @@ module _ (w count next moment n m : ℕ) (vs ws writers numbers : List ℕ) (rs 
     abbrev o : ℕ
     o = getD os t 0
 
-    abbrev M : ℕ
-    M = bitAnd (getD inst (item (unpack (getD ps t 0))) 0) (getD early (getD os t 0) 0)
-
-    small : e < 256
-    small = omega arith
-
     -- a row of the set is a writer that ended before
     in-out : (j : ℕ) → member M j ≡ true → (j < n) × (committed (at rs j) ≡ true) × (wrote S (num (at rs j)) e ≡ true) × (done (at rs j) < start (at rs o))
-    unfolding earlierThan
     in-out j h =
-        let b = sym (member-and (getD inst e 0) (getD early o 0) j) ∙ h in
-        let u = installs-out count next moment n m vs ws rs ps hn e j (sym (ins .is e j small) ∙ and-left _ _ b) in
-        (u .0, u .1, u .2, ltb-true _ _ (sym (early-at o j (own .inside t lt) (u .0)) ∙ and-right (member (getD inst e 0) j) _ b))
+        let b = sym (is j) ∙ h in
+        let u = installs-out count next moment n m vs ws rs ps hn e j (and-left _ _ b) in
+        (u .0, u .1, u .2, earlier-out rs o j (and-right (any (installs n rs e j) (take m ps)) _ b) .2)
 
     out-in : (j : ℕ) → j < n → committed (at rs j) ≡ true → wrote S (num (at rs j)) e ≡ true → done (at rs j) < start (at rs o) → member M j ≡ true
-    unfolding earlierThan
     out-in j l c h b =
-        member-and (getD inst e 0) (getD early o 0) j
-        ∙ and-both _ _ (ins .is e j small ∙ installs-in count next moment n m vs ws rs ps hn e j l c h) (early-at o j (own .inside t lt) l ∙ lt-ltb _ _ b)
+        is j ∙ and-both _ _ (installs-in count next moment n m vs ws rs ps hn e j l c h) (earlier-in rs o j (before (decLt o j) (ℕ-discrete o j)) c b)
+      where
+        before : Dec (o < j) → Dec (o ≡ j) → j < o
+        before (yes q) z = absurd (omega (arith, b, k .ends (in-index zeroRow n rs hn j l) c, start-rising count next moment n m vs ws rs ps hn k o j q l))
+        before (no q) (yes z) = absurd (omega (arith, b, k .ends (in-index zeroRow n rs hn j l) c, ap (λ (i : ℕ). start (at rs i)) z))
+        before (no q) (no z) = omega arith
 
     fits : M < 2 ^ w
     fits = set-small w M (λ j h. omega (arith, in-out j h .0))
@@ -147,31 +142,9 @@ module _ (w count next moment n m : ℕ) (vs ws writers numbers : List ℕ) (rs 
             pick false (ne-eqb M 0 z) ∙ nums i (h .0) ∙ ap num (ap (at rs) (order c i (h .0) (h .1) (h .2) (top-last w M (omega arith) fits) (q .0) (q .1) (q .2) (q .3) last) ∙ q .2) ∙ sym (ap writer (u .is))
 
     -- the word of a read
-    names-is : names w numbers writers inst early p o ≡ (not (isRead (unpack p)) || eqb (unpack p .word) (writer (visible S (txn (unpack p)) e)))
+    pub sees-is : isRead (unpack (getD ps t 0)) ≡ true
+        → sees (held count next moment vs ws (take n rs) (take m ps)) (unpack (getD ps t 0)) ≡ eqb (unpack (getD ps t 0) .word) (newestOf w numbers M (getD writers (item (unpack (getD ps t 0))) 0))
     unfolding visible
-    names-is = go (ℕ-discrete (unpack p .kind) 1)
-      where
-        go : Dec (unpack p .kind ≡ 1) → names w numbers writers inst early p o ≡ (not (isRead (unpack p)) || eqb (unpack p .word) (writer (versionAt S e (startOf S (txn (unpack p))))))
-        go (no z) =
-            names-other w numbers writers inst early p o z
-            ∙ sym (ap (λ (b : Bool). not b || eqb (unpack p .word) (writer (versionAt S e (startOf S (txn (unpack p)))))) (ne-eqb (unpack p .kind) 1 z))
-        go (yes z) =
-            names-read w numbers writers inst early p o z
-            ∙ ap (eqb (unpack p .word)) (seen-row ∙ ap (λ (x : ℕ). writer (versionAt S e x)) (sym started))
-            ∙ sym (ap (λ (b : Bool). not b || eqb (unpack p .word) (writer (versionAt S e (startOf S (txn (unpack p)))))) (eq-eqb (unpack p .kind) 1 z))
-
-  abbrev sees : Rec → Bool
-  sees x = not (isRead x) || eqb (x .word) (writer (visible S (txn x) (item x)))
-
-  -- the equation
-  pub seen-is : namesAll w m ps os numbers writers inst early ≡ seen (held count next moment vs ws (take n rs) (take m ps))
-  unfolding namesAll seen
-  seen-is =
-      both-ways _ _
-      (λ h. all-in sees (map unpack (take m ps)) (λ x mx.
-      let v = Memᴰ·of-map unpack (take m ps) mx in
-      let t = index-in 0 m ps hm (v .1) in
-      ap sees (sym (ap unpack (t .2) ∙ v .2)) ∙ sym (names-is (t .0) (t .1)) ∙ all-out (λ y. names w numbers writers inst early (getD ps y 0) (getD os y 0)) (in-upfrom 0 m (t .0) (omega arith) (omega (arith, t .1))) h))
-      (λ h. all-in _ (upfrom 0 m) (λ t mt.
-      let l : t < m = omega (arith, mem-upfrom 0 m mt) in
-      names-is t l ∙ all-out sees (Memᴰ·map unpack (in-index 0 m ps hm t l)) h))
+    sees-is r =
+        ap (λ (b : Bool). not b || eqb (unpack p .word) (writer (versionAt S e (startOf S (txn (unpack p)))))) r
+        ∙ ap (eqb (unpack p .word)) (sym (seen-row ∙ ap (λ (x : ℕ). writer (versionAt S e x)) (sym started)))

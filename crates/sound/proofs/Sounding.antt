@@ -10,7 +10,6 @@ use Rattle.rules.specs.Lists.{any, upfrom}
 use Rattle.rules.specs.Deps.{ring}
 use Rattle.rules.specs.Sound.{lawful, lean, sized, sound, tested}
 use Rattle.rules.specs.Raw.{Raw, rawOf, sameRaw, soundRaw, stateOf}
-use Rattle.lists.specs.Tables.{firstIndex}
 use Rattle.laws.proofs.Lists.{and-both, and-right}
 use Rattle.graph.specs.Reach.{ringed}
 use Rattle.graph.specs.Sets.{edges as inTable}
@@ -44,16 +43,15 @@ module _ (n m : ℕ) (w : Raw) (l : length (w .rows) ≡ n) where
     unfolding stateOf
     holds = record { rows = refl; recs = refl }
 
-    module _ (g : List ℕ) (k : EdgesTold n (w .rows) (w .recs) g) (used : ℕ) (eu : used ≡ firstIndex noRow (w .rows)) where
-      rings : any (ringed n (inTable g)) (upfrom 0 used) ≡ ring (stateOf w)
+    module _ (g : List ℕ) (k : EdgesTold n (w .rows) (w .recs) g) where
+      rings : any (ringed n (inTable g)) (upfrom 0 n) ≡ ring (stateOf w)
       rings =
-          ap (λ (i : ℕ). any (ringed n (inTable g)) (upfrom 0 i)) (eu ∙ sym (few-rows n m w))
-          ∙ ring-is (stateOf w) passed-tests g (k .is (stateOf w) passed-tests holds) n (omega (arith, few-rows n m w, first-most noRow (w .rows)))
+          ring-is (stateOf w) passed-tests g (k .is (stateOf w) passed-tests holds) n (omega (arith, few-rows n m w, first-most noRow (w .rows)))
 
-      pub ringed-tables : any (ringed n (inTable g)) (upfrom 0 used) ≡ true → false ≡ soundRaw n m w
+      pub ringed-tables : any (ringed n (inTable g)) (upfrom 0 n) ≡ true → false ≡ soundRaw n m w
       ringed-tables f = on t (off _ (ap not (sym rings ∙ f))) ∙ chain
 
-      pub sound-tables : any (ringed n (inTable g)) (upfrom 0 used) ≡ false → (r : ℕ) → SpentTold (w .rows) g r → eqb r 0 ≡ soundRaw n m w
+      pub sound-tables : any (ringed n (inTable g)) (upfrom 0 n) ≡ false → (r : ℕ) → SpentTold (w .rows) g r → eqb r 0 ≡ soundRaw n m w
       unfolding lawful
       sound-tables f r p =
           let free : ring (stateOf w) ≡ false = sym rings ∙ f in

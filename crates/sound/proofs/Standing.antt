@@ -2,16 +2,16 @@
 use Prim.Native.Nat.{ℕ, zero, suc, _+_, _≤_, _<_}
 use native.Mathlib.Omega.{arith}
 use native.Mathlib.Decide.{decLt}
-use mathlib.Core.Bool.{true, _&&_, and-eq-true-iff}
+use mathlib.Core.Bool.{true, not, _&&_, and-eq-true-iff}
 use mathlib.Core.Path.{_≡_, sym, ap, _∙_}
-use mathlib.Core.List.{List, _∷_, List·Memᴰ·head, List·Memᴰ·tail, Memᴰ·map, Memᴰ·of-map}
-use lib.Dec.{leb, ltb}
+use mathlib.Core.List.{List, [], _∷_, List·Memᴰ·head, List·Memᴰ·tail, Memᴰ·map, Memᴰ·of-map}
+use lib.Dec.{eqb, leb, ltb}
 use lib.ListN.{length, take}
-use borrow.Author.Tests.{eq-eqb, eqb-true, leb-true, lt-ltb, ltb-true}
+use borrow.Author.Tests.{eq-eqb, eqb-false, eqb-true, leb-true, lt-ltb, ltb-true, not-true}
 use Rattle.terms.specs.declared.Row.{Row}
 use Rattle.terms.specs.declared.Rec.{Rec}
 use Rattle.terms.specs.Words.{committed, done, item, num, start, txn}
-use Rattle.rules.specs.Lists.{all, any, pairs, upfrom}
+use Rattle.rules.specs.Lists.{all, any, upfrom}
 use Rattle.rules.specs.State.{State, wrote}
 use Rattle.rules.specs.Sound.{numbered, timed}
 use Rattle.rules.specs.Raw.{unpack, zeroRow}
@@ -20,14 +20,20 @@ use Rattle.laws.proofs.Rows.{Ascend, Known, pairs-out}
 use Rattle.laws.proofs.Versions.{recorded-in, recorded-out}
 use Rattle.sound.specs.Items.{at, installs}
 use Rattle.sound.specs.Parts.{held}
+use Rattle.sound.specs.Rows.{ascends, rises}
 use Rattle.sound.proofs.Places.{in-index, row-rising}
 
 -- what is known of the rows of a state once the sentences on rows hold
 pub record Ranked (s : State) : Type 0 where
   pub ascend : Ascend (s .rows)
-  pub rising : pairs (λ a b. ltb (start a) (start b)) (s .rows) ≡ true
+  pub rising : rises (s .rows) ≡ true
   pub ends : {r : Row} → r ∈ s .rows → committed r ≡ true → start r < done r
+  pub cross : {c r : Row} → c ∈ s .rows → committed c ≡ true → r ∈ s .rows → done c ≡ start r → ⊥
   pub known : Known s
+
+starts-rise : (s : State) → numbered s ≡ true → rises (s .rows) ≡ true
+unfolding numbered
+starts-rise s h = and-right (all (λ r. leb 1 (num r) && ltb (num r) (s .next)) (s .rows)) _ h
 
 pub ranked : (s : State) → Ascend (s .rows) → numbered s ≡ true → timed s ≡ true → Ranked s
 unfolding numbered timed
@@ -36,14 +42,19 @@ ranked s o hn ht =
     let n = and-left (all (λ r. leb 1 (num r) && ltb (num r) (s .next)) (s .rows)) _ hn in
     record {
       ascend = o;
-      rising = and-right (all (λ r. leb 1 (num r) && ltb (num r) (s .next)) (s .rows)) _ hn;
+      rising = starts-rise s hn;
       ends = λ {r} m c. ltb-true (start r) (done r) (and-left _ _ (all-out (λ r. ltb (start r) (done r) && ltb (done r) (s .moment)) (keep-in committed m c) (v .0 .0 .1)));
+      cross = λ {c} {r} mc e mr.
+          eqb-false (done c) (start r) (not-true _ (all-out (λ r. not (eqb (done c) (start r))) mr (all-out (λ c. all (λ r. not (eqb (done c) (start r))) (s .rows)) (keep-in committed mc e) (v .1))));
       known = record {
         ascend = o;
         positive = λ {r} m. leb-true 1 (num r) (and-left _ _ (all-out (λ r. leb 1 (num r) && ltb (num r) (s .next)) m n));
         distinct = λ mq cq mr cr e. apart done (v .0 .1) (keep-in committed mq cq) (keep-in committed mr cr) e;
       };
     }
+
+pub rows-rise : (next moment : ℕ) (rs : List Row) → (ascends rs && (numbered (held 0 next moment [] [] rs []) && timed (held 0 next moment [] [] rs []))) ≡ true → rises rs ≡ true
+rows-rise next moment rs h = starts-rise (held 0 next moment [] [] rs []) (and-left _ (timed (held 0 next moment [] [] rs [])) (and-right (ascends rs) _ h))
 
 pub in-upfrom : (k n i : ℕ) → k ≤ i → i < k + n → i ∈ upfrom k n
 in-upfrom k zero i a b = absurd (omega arith)

@@ -5,6 +5,9 @@ use mathlib.Core.List.{List}
 use lib.Dec.{ltb}
 use Rattle.rules.specs.Lists.{all, mem}
 
--- each writer is below the next number and none of the numbers
+-- a writer is below the next number and none of the numbers; so each of them
+abbrev pub fair : ℕ → List ℕ → ℕ → Bool
+fair next ns w = ltb w next && not (mem w ns)
+
 unfoldable pub basedOn : ℕ → List ℕ → List ℕ → Bool
-basedOn next ns ws = all (λ w. ltb w next && not (mem w ns)) ws
+basedOn next ns ws = all (fair next ns) ws

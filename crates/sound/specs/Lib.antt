@@ -4,4 +4,5 @@ pub mod Rows
 pub mod Records
 pub mod Base
 pub mod Items
+pub mod Rings
 pub mod Told

@@ -11,6 +11,10 @@ use Rattle.rules.specs.Lists.{pairs}
 abbrev pub ascends : List Row → Bool
 ascends rs = pairs (λ a b. ltb (num a) (num b)) rs
 
+-- and by ascending start
+abbrev pub rises : List Row → Bool
+rises rs = pairs (λ a b. ltb (start a) (start b)) rs
+
 unfoldable pub endsWell : ℕ → Row → Bool
 endsWell moment r = active r || (ltb (start r) (done r) && ltb (done r) moment)
 

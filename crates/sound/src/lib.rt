@@ -4,6 +4,7 @@ use crate::base::numbers;
 use crate::head::has_head;
 use crate::items::has_items;
 use crate::records::has_records;
+use crate::rings::has_ring;
 use crate::rows::has_rows;
 use crate::shape::ITEMS;
 use crate::shape::RECS;
@@ -11,17 +12,13 @@ use crate::shape::has_shape;
 use crate::shape::used_recs;
 use crate::shape::used_rows;
 use graph::ROWS;
-use graph::Set;
 use terms::Row;
 ghost use mathlib.Core.Path.{_≡_};
 ghost use mathlib.Core.Bool.{true};
 ghost use Prim.Native.Nat.{_≤_};
 ghost use lib.ListN.{length, take};
-ghost use Rattle.rules.specs.Lists.{any, upfrom};
 ghost use Rattle.rules.specs.Raw.{soundRaw};
-ghost use Rattle.graph.specs.Sets.{edges};
-ghost use Rattle.graph.specs.Reach.{ringed};
-ghost use Rattle.sound.specs.Rows.{ascends};
+ghost use Rattle.sound.specs.Rows.{ascends, rises};
 ghost use Rattle.sound.specs.Shape.{raw};
 ghost use Rattle.sound.specs.Told.{LinksTold, testedRaw};
 
@@ -29,6 +26,7 @@ pub mod base;
 pub mod head;
 pub mod items;
 pub mod records;
+pub mod rings;
 pub mod rows;
 pub mod shape;
 
@@ -42,7 +40,7 @@ fn has_links(
     recs: &[u64],
     filed: usize,
 ) -> bool
-    requires { do ⌜ (used ≤ (← ⟦ROWS⟧)) × (filed ≤ length (now recs)) × (filed ≤ (← ⟦RECS⟧)) × (length (now writers) ≡ (← ⟦ITEMS⟧)) × (count ≤ (← ⟦ITEMS⟧)) × (ascends (take used rows) ≡ true) ⌝ }
+    requires { do ⌜ (used ≤ (← ⟦ROWS⟧)) × (filed ≤ length (now recs)) × (filed ≤ (← ⟦RECS⟧)) × (length (now writers) ≡ (← ⟦ITEMS⟧)) × (count ≤ (← ⟦ITEMS⟧)) × (ascends (take used rows) ≡ true) × (rises (take used rows) ≡ true) ⌝ }
     ensures { λ b. ⌜ LinksTold count next used filed (now (writers .entry)) rows (now (recs .entry)) b ⌝ }
 {
     let mut owners = [0; RECS];
@@ -84,21 +82,6 @@ pub fn is_tested(
     has_links(count, next, writers, rows, used, recs, filed)
 }
 
-// Does a ring pass through one of the first used rows?
-fn has_ring(g: &[Set], used: usize) -> bool
-    requires { do ⌜ (length (now g) ≡ (← ⟦ROWS⟧)) × (used ≤ (← ⟦ROWS⟧)) ⌝ }
-    ensures { λ b. do ⌜ b ≡ any (ringed (← ⟦ROWS⟧ .entry) (edges (now (g .entry)))) (upfrom 0 used) ⌝ }
-{
-    let mut j = 0;
-    while j < used {
-        if graph::ring(g, j) {
-            return true;
-        }
-        j += 1;
-    }
-    false
-}
-
 // Are the tables sound?
 pub fn sound(head: &[u32], values: &[u32], writers: &[u32], rows: [Row; ROWS], recs: &[u64]) -> bool
     ensures { λ b. do ⌜ b ≡ soundRaw (← ⟦ROWS⟧ .entry) (← ⟦RECS⟧ .entry) (raw (now (head .entry)) (now (values .entry)) (now (writers .entry)) rows (now (recs .entry))) ⌝ }
@@ -107,8 +90,7 @@ pub fn sound(head: &[u32], values: &[u32], writers: &[u32], rows: [Row; ROWS], r
         return false;
     }
     let g = edges::edges(rows, recs);
-    let used = used_rows(rows);
-    if has_ring(&g, used) {
+    if has_ring(&g) {
         return false;
     }
     edges::spent(rows, &g) == 0

@@ -2,9 +2,9 @@
 use graph::ROWS;
 use terms::Row;
 ghost use mathlib.Core.Path.{_≡_};
-ghost use mathlib.Core.Bool.{_&&_};
+ghost use mathlib.Core.Bool.{true, _&&_};
 ghost use mathlib.Core.List.{[]};
-ghost use Prim.Native.Nat.{_≤_};
+ghost use Prim.Native.Nat.{ℕ, _≤_};
 ghost use lib.ListN.{take};
 ghost use Rattle.rules.specs.Lists.{pairs};
 ghost use Rattle.rules.specs.Sound.{numbered, timed};
@@ -76,9 +76,9 @@ fn is_apart(a: Row, b: Row) -> bool
     a.commit.0 != b.start.0
 }
 
-// Is no commit a moment of a later row's?
+// Is no commit a moment of a later row's? All moments of the rows from the first that started after the commit on are after it.
 fn are_apart(rows: [Row; ROWS], used: usize) -> bool
-    requires { do ⌜ used ≤ (← ⟦ROWS⟧) ⌝ }
+    requires { do ⌜ (used ≤ (← ⟦ROWS⟧)) × ((next : ℕ) × (moment : ℕ) × (fineFrom next moment 0 0 (take used rows) ≡ true)) ⌝ }
     ensures { λ r. ⌜ r ≡ pairs apartFrom (take used rows) ⌝ }
 {
     let mut i = 0;
@@ -88,10 +88,14 @@ fn are_apart(rows: [Row; ROWS], used: usize) -> bool
         let mut j = i;
         while j < used {
             let b = rows[j];
-            if !is_apart(a, b) {
-                return false;
+            if a.commit.0 < b.start.0 {
+                j = used;
+            } else {
+                if !is_apart(a, b) {
+                    return false;
+                }
+                j += 1;
             }
-            j += 1;
         }
     }
     true

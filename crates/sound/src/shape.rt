@@ -43,19 +43,21 @@ pub fn used_recs(recs: &[u64]) -> usize
     j
 }
 
-// Are the entries from index from on all 0?
+// Are the entries from index from on all 0? All are looked at, with no way out of the loop: the compiler then takes several at a time.
 fn zeros_from(table: &[u32], from: usize) -> bool
     requires { ⌜ from ≤ length (now table) ⌝ }
     ensures { λ b. ⌜ b ≡ all isZero (drop from (now (table .entry))) ⌝ }
 {
+    let mut b = true;
     let mut j = from;
     while j < table.len() {
-        if table[j] != 0 {
-            return false;
-        }
+        let v = table[j];
         j += 1;
+        if v != 0 {
+            b = false;
+        }
     }
-    true
+    b
 }
 
 // The same of records.
@@ -63,14 +65,16 @@ fn no_recs_from(recs: &[u64], from: usize) -> bool
     requires { ⌜ from ≤ length (now recs) ⌝ }
     ensures { λ b. ⌜ b ≡ all isZero (drop from (now (recs .entry))) ⌝ }
 {
+    let mut b = true;
     let mut j = from;
     while j < recs.len() {
-        if recs[j] != 0 {
-            return false;
-        }
+        let v = recs[j];
         j += 1;
+        if v != 0 {
+            b = false;
+        }
     }
-    true
+    b
 }
 
 fn is_zero(r: Row) -> bool

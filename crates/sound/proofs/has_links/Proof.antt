@@ -8,6 +8,7 @@ use lib.ListN.{take}
 use borrow.Author.Needs.{needs}
 use borrow.Author.Tests.{not-false, not-true}
 use Rattle.rules.specs.Lists.{pairs}
+use Rattle.laws.proofs.Lists.{and-left}
 use Rattle.laws.proofs.Rows.{pairs-num}
 use Rattle.sound.proofs.Telling.{links-told, links-unbased, links-unfiled}
 use Rattle.sound.proofs.has_links.Statement.{statement}
@@ -35,8 +36,18 @@ returns-2 c =
 has-items-requires : tie.Need-has-items-requires
 has-items-requires c κs =
     let s = c .before .before .before .before .before .before .before .before .before .before .before .before .before .before in
-    let t : c .before .before .before .before .before .before .before .before .before .before .has-records .result ≡ true = not-false (c .before .before .before .before .before .before .before .before .before .before .has-records .result) (c .before .before .before .before .before .before .before .before .if1 .left) in
-    (s .pre .0, s .pre .1, search needs, search needs, s .pre .3, s .pre .5, c .before .before .before .before .before .before .before .before .before .before .has-records .ensures .1 t, c .before .before .before .before .before .before .numbers .ensures .1)
+    let t : c .before .before .before .before .before .before .before .before .before .before .has-records .result ≡ true = not-false (c .before .before .before .before .before .before .before .before .before .before .has-records .result) (c .before .before .before .before .before .before .before .before .if1 .left) in (
+      s .pre .0,
+      s .pre .1,
+      search needs,
+      search needs,
+      s .pre .3,
+      s .pre .5,
+      s .pre .6,
+      c .before .before .before .before .before .before .before .before .before .before .has-records .ensures .1 t,
+      c .before .before .before .before .before .before .numbers .ensures .1,
+      and-left _ _ (sym (c .before .before .before .before .before .before .before .before .before .before .has-records .ensures .0) ∙ t),
+    )
 
 returns-3 : tie.Need-returns-3
 returns-3 c =

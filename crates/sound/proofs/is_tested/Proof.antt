@@ -1,10 +1,12 @@
 -- `sound::is_tested` meets its contract: test after test. Assumes nothing.
 use native.Mathlib.Omega.{arith}
 use mathlib.Core.Path.{sym, _∙_}
+use lib.ListN.{getD, take}
 use borrow.Author.Needs.{needs}
 use borrow.Author.Tests.{not-false, not-true}
 use Rattle.laws.proofs.Lists.{and-left}
 use Rattle.sound.specs.Shape.{isZero, noRow, raw}
+use Rattle.sound.proofs.Standing.{rows-rise}
 use Rattle.sound.proofs.Shapes.{first-most}
 use Rattle.sound.proofs.Tested.{lengths, tested-linked, tested-unheaded, tested-unrowed, tested-unshaped}
 use Rattle.sound.proofs.is_tested.Statement.{statement}
@@ -67,13 +69,15 @@ has-links-requires c κs =
     let s = c .before .before .before .before .before .before .before .before .before .before .before .before .before .before .before in
     let a = s .args in
     let z = lengths 32 256 (raw (a .head .now) (a .values .now) (a .writers .now) (a .rows) (a .recs .now)) (search needs) (c .before .before .before .before .before .before .before .before .before .before .used-rows .result) (c .before .before .before .before .before .before .before .before .before .used-recs .result) (c .before .before .before .before .before .before .before .before .before .before .used-rows .ensures) (c .before .before .before .before .before .before .before .before .before .used-recs .ensures)
-    (sym (c .before .before .before .before .before .before .before .before .has-shape .ensures) ∙ not-false (c .before .before .before .before .before .before .before .before .has-shape .result) (c .before .before .before .before .before .before .before .if1 .left)) in (
+    (sym (c .before .before .before .before .before .before .before .before .has-shape .ensures) ∙ not-false (c .before .before .before .before .before .before .before .before .has-shape .result) (c .before .before .before .before .before .before .before .if1 .left)) in
+    let h = sym (c .before .has-rows .ensures) ∙ not-false (c .before .has-rows .result) (c .if3 .left) in (
       omega (arith, c .before .before .before .before .before .before .before .before .before .before .used-rows .ensures, first-most noRow (a .rows), s .good),
       omega (arith, c .before .before .before .before .before .before .before .before .before .used-recs .ensures, first-most isZero (a .recs .now)),
       omega (arith, c .before .before .before .before .before .before .before .before .before .used-recs .ensures, first-most isZero (a .recs .now), z .recs),
       z .writers,
       z .small,
-      and-left _ _ (sym (c .before .has-rows .ensures) ∙ not-false (c .before .has-rows .result) (c .if3 .left)),
+      and-left _ _ h,
+      rows-rise (getD (a .head .now) 1 0) (getD (a .head .now) 2 0) (take (c .before .before .before .before .before .before .before .before .before .before .used-rows .result) (a .rows)) h,
     )
 
 returns-4 : tie.Need-returns-4

@@ -13,5 +13,8 @@ returns c = off _ (sym (c .before .are-fine .ensures) ∙ not-true (c .before .a
 returns-2 : tie.Need-returns-2
 returns-2 c = on (sym (c .before .before .are-fine .ensures) ∙ not-false (c .before .before .are-fine .result) (c .before .if1 .left)) (c .are-apart .ensures) ∙ rows-is _
 
+are-apart-requires : tie.Need-are-apart-requires
+are-apart-requires c κs = let a = c .before .before .args in (search needs, (a .next, a .moment, sym (c .before .are-fine .ensures) ∙ not-false (c .before .are-fine .result) (c .if1 .left)))
+
 pub has-rows-spec : {M : Type 1} → statement M
-has-rows-spec = tie.close (tie.spec (λ c κs. search needs) returns (λ c κs. search needs) returns-2)
+has-rows-spec = tie.close (tie.spec (λ c κs. search needs) returns are-apart-requires returns-2)
