@@ -13,5 +13,5 @@ after at (Good s n) = at + n
 after at Bad = at
 
 -- "each step is decoded from the part of the file that starts at its kind byte"
-abbrev pub nextAt : List ℕ → ℕ → Next
+unfoldable pub nextAt : List ℕ → ℕ → Next
 nextAt file at = record { decoded = decoded (partAt file at); at = after at (decoded (partAt file at)) }
