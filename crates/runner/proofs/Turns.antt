@@ -120,11 +120,11 @@ module _ {file out₀ out : List ℕ} {w : Raw} {at n : ℕ} (g : Going file out
     in-range : (inRange (callOf s) && all inRange (callsOf (restAt file (at + k)))) ≡ true
     in-range = sym (ap (λ (h : Contents). all inRange (callsOf h)) (next-good file at e)) ∙ g .ranged
 
-    -- a step is done and its answer written
-    pub go-next : (a : Answer) (w′ : Raw) {x : Given} (out′ : List ℕ) → (a, w′) ≡ callOn 32 256 (callOf s) w → x ≡ paper a → x .value < 4294967296 → out′ ≡ answerAt (5 * n) x out
-        → Going file out₀ out′ w′ (at + k) (n + 1)
-    go-next a w′ {x} out′ c q v p =
-        record {
+    -- a step is done and its answer written, and the reader has moved on past it
+    pub go-next : (a : Answer) (w′ : Raw) {x : Given} (out′ : List ℕ) {at′ : ℕ} → (a, w′) ≡ callOn 32 256 (callOf s) w → x ≡ paper a → x .value < 4294967296 → out′ ≡ answerAt (5 * n) x out → at′ ≡ at + k
+        → Going file out₀ out′ w′ at′ (n + 1)
+    go-next a w′ {x} out′ c q v p m =
+        subst (λ (b : ℕ). Going file out₀ out′ w′ b (n + 1)) (sym m) (record {
           at-most = go-inside .1;
           few = omega (arith, g .few, go-inside .0);
           ready = subst (λ (u : Answer × Raw). Ready (u .1)) (sym c) (ready-after w (g .ready) (callOf s) (and-left _ _ in-range));
@@ -138,7 +138,7 @@ module _ {file out₀ out : List ℕ} {w : Raw} {at n : ℕ} (g : Going file out
               ∙ ap (λ (u : Answer × Raw). g .sofar ++ paper (u .0) ∷ givenOn (u .1) (restAt file (at + k))) c
               ∙ ap (λ (l : List Given). g .sofar ++ l) (sym step-answers)
               ∙ g .same;
-        }
+        })
 
   -- what a run returns and leaves, and that its answers can be read back
   abbrev Ended : ℕ → List ℕ → Type 0

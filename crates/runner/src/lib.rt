@@ -8,9 +8,9 @@ use calls::open;
 use calls::read;
 use calls::write;
 use graph::ROWS;
+use reader::step_at;
 use steps::Decoded;
 use steps::count;
-use steps::decode;
 use steps::put_answer;
 use tables::rows::no_rows;
 use terms::Answer;
@@ -148,8 +148,9 @@ fn play(file: &[u8], out: &mut [u8]) -> u64
     let mut at = 0;
     let mut n = 0;
     while at < file.len() {
-        let d = decode(&file[at..]);
-        let Decoded::Good(step, k) = d else {
+        let found = step_at(file, at);
+        let d = found.decoded;
+        let Decoded::Good(step, _) = d else {
             put_answer(
                 out,
                 5 * n,
@@ -165,7 +166,7 @@ fn play(file: &[u8], out: &mut [u8]) -> u64
         put_answer(out, 5 * n, answer.given());
         let next = ran.rows;
         rows = next;
-        at += k;
+        at = found.at;
         n += 1;
     }
     n as u64
