@@ -1,6 +1,6 @@
 -- What a call on rows by value says of the row table that they were loaded from: a table of 32 rows is loaded whole and stored whole, and one of
 -- another length is refused. Assumes nothing.
-use Prim.Native.Nat.{ℕ, _<_, _≤_, suc}
+use Prim.Native.Nat.{ℕ, _+_, _<_, _≤_, suc}
 use mathlib.Core.Bool.{Bool, cond, false, true}
 use mathlib.Core.List.{List, _++_, append-nil, map}
 use mathlib.Core.Path.{_∙_, _≡_, ap, refl, sym}
@@ -27,13 +27,13 @@ use Rattle.whole.specs.Loading.{OfLent, firstOf, loaded, over}
 pub length-over : (from : List Row) (n : ℕ) (ys : List Row) → n ≤ length from → n ≤ length ys → length (over from n ys) ≡ length ys
 length-over from n ys lf ly = simp (length-append, length-drop, length-take-le n from lf) (omega arith)
 
-pub over-more : (from : List Row) (i : ℕ) (ys : List Row) (z : Row) → suc i ≤ length from → suc i ≤ length ys
-    → set (over from i ys) i (getD from i z) ≡ over from (suc i) ys
+pub over-more : (from : List Row) (i : ℕ) (ys : List Row) (z : Row) → i < length from → i < length ys → set (over from i ys) i (getD from i z) ≡ over from (i + 1) ys
 over-more from i ys z lf ly =
-    ap (λ (r : List Row). set (take i from ++ r) i (getD from i z)) (drop-cons ys i z (omega arith))
+    ap (λ (r : List Row). set (take i from ++ r) i (getD from i z)) (drop-cons ys i z ly)
     ∙ set-at (take i from) (getD ys i z) (drop (suc i) ys) (getD from i z) i (length-take-le i from (omega arith))
     ∙ sym (append-snoc (take i from) (getD from i z) (drop (suc i) ys))
-    ∙ ap (λ (r : List Row). r ++ drop (suc i) ys) (sym (take-suc from i z (omega arith)))
+    ∙ ap (λ (r : List Row). r ++ drop (suc i) ys) (sym (take-suc from i z lf))
+    ∙ ap (λ (k : ℕ). over from k ys) (sym (add-one i))
 
 -- 32 rows over as many are those rows
 pub over-all : (from ys : List Row) → length from ≡ 32 → length ys ≡ 32 → over from 32 ys ≡ from

@@ -7,6 +7,8 @@ use terms::Row;
 use terms::TxnNo;
 ghost use mathlib.Core.Path.{_≡_};
 ghost use Prim.Native.Nat.{_≤_};
+ghost use lib.ListN.{replicate};
+ghost use Rattle.rules.specs.Raw.{zeroRow};
 ghost use Rattle.rules.specs.Public.{abortOn, beginOn, commitOn, latestOn, openOn, readOn, writeOn};
 ghost use Rattle.calls.specs.Lent.{raw};
 ghost use Rattle.whole.specs.Loading.{OfLent, firstOf, over};
@@ -16,6 +18,13 @@ pub struct Done {
     pub answer: Answer,
     pub count: usize,
     pub rows: [Row; ROWS],
+}
+
+// What rows are loaded into.
+pub fn no_rows() -> [Row; ROWS]
+    ensures { λ r. ⌜ r ≡ replicate 32 zeroRow ⌝ }
+{
+    tables::rows::no_rows()
 }
 
 // How many of n rows are loaded.
