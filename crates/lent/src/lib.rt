@@ -9,8 +9,12 @@ use terms::Row;
 use terms::TxnNo;
 ghost use mathlib.Core.Path.{_≡_};
 ghost use Prim.Native.Nat.{_≤_};
-ghost use lib.ListN.{length};
+ghost use lib.ListN.{length, set};
+ghost use Rattle.rules.specs.Lists.{keep, padded};
+ghost use Rattle.rules.specs.State.{rowOf};
+ghost use Rattle.rules.specs.Raw.{usedRows, zeroRow};
 ghost use Rattle.rules.specs.Public.{abortOn, beginOn, commitOn, latestOn, openOn, readOn, writeOn};
+ghost use Rattle.bridge.specs.Whole.{otherRow};
 ghost use Rattle.calls.specs.Lent.{raw};
 ghost use Rattle.whole.specs.Loading.{loaded, over};
 
@@ -38,6 +42,35 @@ pub fn store(rows: &mut [Row], n: usize, from: [Row; ROWS])
         rows[i] = from[i];
         i += 1;
     }
+}
+
+// The row with the number t, or the empty row.
+pub fn find(rows: &[Row], t: TxnNo) -> Row
+    requires { ⌜ length (now rows) ≡ 32 ⌝ }
+    ensures { λ r. ⌜ r ≡ rowOf (usedRows (now (rows .entry))) (t .0) ⌝ }
+{
+    let at = load(rows);
+    tables::rows::row_of(at, t)
+}
+
+// Puts r after the used rows; where all are used, nothing changes.
+pub fn add(rows: &mut [Row], r: Row)
+    requires { ⌜ length (now rows) ≡ 32 ⌝ }
+    ensures { λ _. ⌜ now (rows .exit) ≡ set (now (rows .entry)) (length (usedRows (now (rows .entry)))) r ⌝ }
+{
+    let at = load(rows);
+    let next = tables::rows::add(at, r);
+    store(rows, ROWS, next)
+}
+
+// Takes t's row out: those after it move up, and a zero row comes last.
+pub fn remove(rows: &mut [Row], t: TxnNo)
+    requires { ⌜ length (now rows) ≡ 32 ⌝ }
+    ensures { λ _. ⌜ now (rows .exit) ≡ padded 32 zeroRow (keep (otherRow (t .0)) (now (rows .entry))) ⌝ }
+{
+    let at = load(rows);
+    let next = whole::remove(at, t);
+    store(rows, ROWS, next)
 }
 
 pub fn open(

@@ -6,17 +6,17 @@ use mathlib.Core.List.{List, _++_, append-nil, map}
 use mathlib.Core.Path.{_∙_, _≡_, ap, refl, sym}
 use native.Mathlib.Numerals.{add-one}
 use native.Mathlib.Omega.{arith}
-use lib.Dec.{ltb}
+use lib.Dec.{eqb, ltb}
 use lib.ListN.{drop, drop-of-length-le, getD, length, length-append, length-drop, length-map, replicate, set, take}
 use lib.Seq.{append-snoc, drop-cons, length-take-le, set-at, take-all, take-suc}
-use borrow.Author.Tests.{le-ltb, lt-ltb, ltb-false, ltb-true}
+use borrow.Author.Tests.{eqb-false, eqb-true, le-ltb, lt-ltb, ltb-false, ltb-true}
 use Rattle.terms.specs.declared.Row.{Row}
 use Rattle.terms.proofs.Row as T
 use Rattle.terms.specs.declared.Answer.{Answer}
 use Rattle.terms.specs.declared.Answer.the-variants.{BadOpening, UnsoundTables}
 use Rattle.rules.specs.Machine.{Call, openable}
 use Rattle.rules.specs.Raw.{Raw, soundRaw, zeroRow}
-use Rattle.rules.specs.Public.{fitting, onSound, openOn}
+use Rattle.rules.specs.Public.{onSound, openOn}
 use Rattle.laws.proofs.Refusals.{on-unsound}
 use Rattle.bridge.proofs.Holds.{holds, rows-long}
 use Rattle.calls.specs.Lent.{raw}
@@ -78,23 +78,27 @@ module _ (w : Raw) (ne : length (w .rows) ≡ 32 → ⊥) where
       go true e = open-misfit 32 256 c vs w e (by-false _ (λ h. ne (long 32 256 w h .rows)))
       go false e = open-count 32 256 c vs w e
 
+-- there is room for all 32
+pub room : {len : ℕ} → eqb len 32 ≡ true → 32 ≤ len
+room {len} full = omega (arith, eqb-true len 32 full)
+
 module _ {len : ℕ} {rows : List Row} where
-  module _ {h v w c : List ℕ} (ne : len ≡ 32 → ⊥) where
+  module _ {h v w c : List ℕ} (other : eqb len 32 ≡ false) where
     pub refused : (x : Call) → OfLent len rows (λ ys. (UnsoundTables, raw h v w ys c) ≡ onSound 32 256 x (raw h v w ys c))
-    refused x ys e l = sym (on-unsound 32 256 _ x (unsound-rows (raw h v w ys c) (λ k. ne (sym e ∙ k))))
+    refused x ys e l = sym (on-unsound 32 256 _ x (unsound-rows (raw h v w ys c) (λ k. eqb-false len 32 other (sym e ∙ k))))
 
     pub refused-open : (k : ℕ) (vs : List ℕ) → OfLent len rows (λ ys. (BadOpening, raw h v w ys c) ≡ openOn 32 256 k vs (raw h v w ys c))
-    refused-open k vs ys e l = sym (unfit-rows (raw h v w ys c) (λ m. ne (sym e ∙ m)) k vs)
+    refused-open k vs ys e l = sym (unfit-rows (raw h v w ys c) (λ m. eqb-false len 32 other (sym e ∙ m)) k vs)
 
   -- ---- a table of 32 rows: the rows are left as they are, or all are stored
-  module _ (f : Raw → Answer × Raw) {a : Answer} {h v w c h₀ v₀ w₀ c₀ : List ℕ} (full : len ≡ 32) where
+  module _ (f : Raw → Answer × Raw) {a : Answer} {h v w c h₀ v₀ w₀ c₀ : List ℕ} (full : eqb len 32 ≡ true) where
     pub kept : (a, raw h v w rows c) ≡ f (raw h₀ v₀ w₀ rows c₀) → OfLent len rows (λ ys. (a, raw h v w ys c) ≡ f (raw h₀ v₀ w₀ ys c₀))
     kept says ys e l =
-        let same : ys ≡ rows = sym (loaded-all ys (e ∙ full)) ∙ l in
+        let same : ys ≡ rows = sym (loaded-all ys (e ∙ eqb-true len 32 full)) ∙ l in
         ap (λ (z : List Row). (a, raw h v w z c)) same ∙ says ∙ ap (λ (z : List Row). f (raw h₀ v₀ w₀ z c₀)) (sym same)
 
     pub stored : (next : List Row) → length next ≡ 32 → (a, raw h v w next c) ≡ f (raw h₀ v₀ w₀ rows c₀)
         → OfLent len rows (λ ys. (a, raw h v w (over next 32 ys) c) ≡ f (raw h₀ v₀ w₀ ys c₀))
     stored next long says ys e l =
-        let same : ys ≡ rows = sym (loaded-all ys (e ∙ full)) ∙ l in
-        ap (λ (z : List Row). (a, raw h v w z c)) (over-all next ys long (e ∙ full)) ∙ says ∙ ap (λ (z : List Row). f (raw h₀ v₀ w₀ z c₀)) (sym same)
+        let same : ys ≡ rows = sym (loaded-all ys (e ∙ eqb-true len 32 full)) ∙ l in
+        ap (λ (z : List Row). (a, raw h v w z c)) (over-all next ys long (e ∙ eqb-true len 32 full)) ∙ says ∙ ap (λ (z : List Row). f (raw h₀ v₀ w₀ z c₀)) (sym same)

@@ -7,9 +7,12 @@ use terms::Row;
 use terms::TxnNo;
 ghost use mathlib.Core.Path.{_≡_};
 ghost use Prim.Native.Nat.{_≤_};
+ghost use lib.Dec.{eqb};
 ghost use lib.ListN.{replicate};
+ghost use Rattle.rules.specs.Lists.{keep, padded};
 ghost use Rattle.rules.specs.Raw.{zeroRow};
 ghost use Rattle.rules.specs.Public.{abortOn, beginOn, commitOn, latestOn, openOn, readOn, writeOn};
+ghost use Rattle.bridge.specs.Whole.{otherRow};
 ghost use Rattle.calls.specs.Lent.{raw};
 ghost use Rattle.whole.specs.Loading.{OfLent, firstOf, over};
 
@@ -27,11 +30,24 @@ pub fn no_rows() -> [Row; ROWS]
     tables::rows::no_rows()
 }
 
+// The rows without t's.
+pub fn remove(rows: [Row; ROWS], t: TxnNo) -> [Row; ROWS]
+    ensures { λ out. ⌜ out ≡ padded 32 zeroRow (keep (otherRow (t .0)) rows) ⌝ }
+{
+    tables::rows::remove(rows, t)
+}
+
 // How many of n rows are loaded.
 pub fn first_rows(n: usize) -> usize
     ensures { λ r. ⌜ r ≡ firstOf n ⌝ }
 {
     if n < ROWS { n } else { ROWS }
+}
+
+fn is_full(len: usize) -> bool
+    ensures { λ b. ⌜ b ≡ eqb len 32 ⌝ }
+{
+    len == ROWS
 }
 
 pub fn open(
@@ -50,7 +66,7 @@ pub fn open(
         ≡ openOn 32 256 count (now (start .entry)) (raw (now (head .entry)) (now (values .entry)) (now (writers .entry)) ys (now (recs .entry))))
         ⌝ }
 {
-    if len != ROWS {
+    if !is_full(len) {
         return Done {
             answer: Answer::BadOpening,
             count: 0,
@@ -81,7 +97,7 @@ pub fn begin(
         ≡ beginOn 32 256 (raw (now (head .entry)) (now (values .entry)) (now (writers .entry)) ys (now (recs .entry))))
         ⌝ }
 {
-    if len != ROWS {
+    if !is_full(len) {
         return Done {
             answer: Answer::UnsoundTables,
             count: 0,
@@ -114,7 +130,7 @@ pub fn read(
         ≡ readOn 32 256 t i (raw (now (head .entry)) (now (values .entry)) (now (writers .entry)) ys (now (recs .entry))))
         ⌝ }
 {
-    if len != ROWS {
+    if !is_full(len) {
         return Answer::UnsoundTables;
     }
     scheduler::read(head, values, writers, rows, recs, t, i)
@@ -137,7 +153,7 @@ pub fn write(
         ≡ writeOn 32 256 t i v (raw (now (head .entry)) (now (values .entry)) (now (writers .entry)) ys (now (recs .entry))))
         ⌝ }
 {
-    if len != ROWS {
+    if !is_full(len) {
         return Answer::UnsoundTables;
     }
     scheduler::write(head, values, writers, rows, recs, t, i, v)
@@ -158,7 +174,7 @@ pub fn commit(
         ≡ commitOn 32 256 t (raw (now (head .entry)) (now (values .entry)) (now (writers .entry)) ys (now (recs .entry))))
         ⌝ }
 {
-    if len != ROWS {
+    if !is_full(len) {
         return Done {
             answer: Answer::UnsoundTables,
             count: 0,
@@ -190,7 +206,7 @@ pub fn abort(
         ≡ abortOn 32 256 t (raw (now (head .entry)) (now (values .entry)) (now (writers .entry)) ys (now (recs .entry))))
         ⌝ }
 {
-    if len != ROWS {
+    if !is_full(len) {
         return Done {
             answer: Answer::UnsoundTables,
             count: 0,
@@ -222,7 +238,7 @@ pub fn latest(
         ≡ latestOn 32 256 i (raw (now (head .entry)) (now (values .entry)) (now (writers .entry)) ys (now (recs .entry))))
         ⌝ }
 {
-    if len != ROWS {
+    if !is_full(len) {
         return Answer::UnsoundTables;
     }
     scheduler::latest(head, values, writers, rows, recs, i)
