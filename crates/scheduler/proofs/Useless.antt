@@ -47,13 +47,6 @@ module _ (f : Scheduler) (keeps : Keeps 32 256 f) where
   pub not-refusing : ((x : Call) (w : Raw) → accepted (f x w .0) ≡ false) → ⊥
   not-refusing h = false≢true (sym (h (Open 2 (0 ∷ 0 ∷ [])) shut) ∙ ap accepted (ap (λ (r : Answer × Raw). r .0) (keeps (Open 2 (0 ∷ 0 ∷ [])) shut) ∙ opening))
 
-  -- it does nothing: a begin counts the next number on
-  pub not-idle : ((x : Call) (w : Raw) → f x w .1 ≡ w) → ⊥
-  not-idle h =
-      let e = ap (λ (r : Answer × Raw). getD (r .1 .head) 1 0) (keeps Begin two) ∙ next-number in
-      let u = ap (λ (w : Raw). getD (w .head) 1 0) (h Begin two) ∙ was-number in
-      omega (arith, e, u)
-
   -- it has a fixed reply: two begins have two numbers
   pub not-fixed : (a : Answer) → ((x : Call) (w : Raw) → f x w .0 ≡ a) → ⊥
   not-fixed a h =
@@ -62,10 +55,14 @@ module _ (f : Scheduler) (keeps : Keeps 32 256 f) where
       let u = ap (λ (b : Answer). paper b .value) (sym (h Begin w) ∙ ap (λ (r : Answer × Raw). r .0) (keeps Begin w)) ∙ second-number in
       omega (arith, e, u)
 
-  -- it honours an opening, and then pretends, whatever it answers: a begin leaves other tables
+  -- it honours an opening, and then pretends, whatever it answers: a begin counts the next number on
   pub not-pretending : ((x : Call) (w : Raw) → opens x ≡ false → f x w .1 ≡ w) → ⊥
   unfolding opens
   not-pretending h =
       let e = ap (λ (r : Answer × Raw). getD (r .1 .head) 1 0) (keeps Begin two) ∙ next-number in
       let u = ap (λ (w : Raw). getD (w .head) 1 0) (h Begin two refl) ∙ was-number in
       omega (arith, e, u)
+
+  -- it does nothing, so it pretends from the start
+  pub not-idle : ((x : Call) (w : Raw) → f x w .1 ≡ w) → ⊥
+  not-idle h = not-pretending (λ x w o. h x w)
