@@ -1,6 +1,8 @@
 // Makes one public call a hundred times, each on a copy of full tables: 32 rows, 256 records. The first byte of standard input says which: 1 open, 2 begin,
 // 3 read, 4 write, 5 latest, 6 commit, 7 abort of the oldest, which leaves all committed ones spent; any other byte, none. It prints the sum of the answers' numbers.
 // bench/calls counts its instructions: what is more than without the calls is their cost.
+#![tactic(auto)]
+
 ghost use Rattle.std.specs.Prelude.{◌<◌};
 
 use calls::Ran;

@@ -1,4 +1,6 @@
 // The calls on tables that are known to be sound: each does what the rules say, with no test for answer 1.
+#![tactic(auto)]
+
 ghost use Rattle.std.specs.Prelude.{◌≡◌, ◌≤◌, length};
 ghost use Rattle.rules.specs.Lists.{padded};
 ghost use Rattle.rules.specs.Machine.{openable};

@@ -1,4 +1,6 @@
 // The edges between committed rows, as a set of rows for each row. The rows stand by ascending number and start, the records by transaction.
+#![tactic(auto)]
+
 ghost use Rattle.std.specs.Prelude.{◌≡◌, not, ◌&&◌, ◌||◌, ℕ, ◌+◌, ◌/◌, ◌^◌, ◌<◌, eqb, ltb, length, get_or};
 ghost use Rattle.lists.specs.Tables.{first_index};
 ghost use Rattle.rules.specs.Raw.{unpack};
@@ -80,7 +82,7 @@ fn count(part: &[u64], t: u32) -> usize
 }
 
 // What a row meets: how many records it has, the rows that wrote what it touched, and those that touched what it wrote. Itself is in neither set.
-#[derive(Drop)]
+#[derive(Clone, Copy)]
 struct Others {
     count: usize,
     touched: Set,

@@ -1,4 +1,6 @@
 // Draws the edges on worked boards, says which rows are spent, takes these out, and prints what is left.
+#![tactic(auto)]
+
 ghost use Rattle.std.specs.Prelude.{◌≤◌, ◌<◌, length};
 
 use edges::ITEMS;

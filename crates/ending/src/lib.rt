@@ -1,4 +1,6 @@
 // How a transaction ends: whether its commit closes a ring, what is left of it, and what is spent then.
+#![tactic(auto)]
+
 ghost use Rattle.std.specs.Prelude.{◌≡◌, map, length};
 ghost use Rattle.terms.specs.Words.{num};
 ghost use Rattle.edges.specs.Told.{EdgesTold};

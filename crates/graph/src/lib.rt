@@ -1,4 +1,6 @@
 // Sets of rows as one word, and what is reached in a table of such sets.
+#![tactic(auto)]
+
 ghost use Rattle.std.specs.Prelude.{◌≡◌, ◌≤◌, ◌<◌, ◌^◌, T, length};
 ghost use Rattle.std.specs.Int.Bits.{bit_or};
 ghost use Rattle.graph.specs.Sets.{member, edges, apart, outside};

@@ -47,6 +47,7 @@ T_in h = subst (λ (x : Bool). T x) (sym h) tt
 
 pub T_out : (b : Bool) → T b → b ≡ true
 T_out true t = refl
+T_out false t = elim t [ ]
 
 -- a test is passed or it is not
 pub passed : (b : Bool) → (b ≡ true) ⊎ (b ≡ false)

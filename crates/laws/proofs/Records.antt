@@ -107,6 +107,7 @@ insert-stays x {z} (y ∷ ys) m n = go (ltb (key x) (key y)) (eqb (key x) (key y
     go false true e (Memᴰ.tail k) r = Memᴰ.tail k
     go false false e (Memᴰ.head q) r = Memᴰ.head q
     go false false e (Memᴰ.tail k) r = Memᴰ.tail (r k)
+insert-stays x {z = z} [] m n = elim m [ ]
 
 pub any-insert : (f : Rec → Bool) (x : Rec) (xs : List Rec) → f x ≡ false → ((y : Rec) → y ∈ xs → key x ≡ key y → f y ≡ false) → any f (insert x xs) ≡ any f xs
 any-insert f x xs e h =
@@ -182,6 +183,7 @@ insert-same x {z} (y ∷ ys) s m e = go (ltb (key x) (key y)) (eqb (key x) (key 
     go false true f q k r = omega arith
     go false false f q (Memᴰ.head k) r = absurd (eqb-false _ _ q (e ∙ ap (λ (w : Rec). key w) k))
     go false false f q (Memᴰ.tail k) r = omega (arith, r k)
+insert-same x {z = z} [] s m e = elim m [ ]
 
 pub word_in-keep : (t i k : ℕ) (g : Rec → Bool) (xs : List Rec) → ((x : Rec) → x ∈ xs → is_rec t i k x ≡ true → g x ≡ true)
     → word_in t i k (keep g xs) ≡ word_in t i k xs

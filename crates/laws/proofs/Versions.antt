@@ -40,6 +40,7 @@ newest-last {r} (q ∷ rs) m = go (ltb (done (newest rs)) (done q)) refl m (newe
     go true t (Memᴰ.tail k) h = omega (arith, h k, ltb-true)
     go false t (Memᴰ.head e) h = omega (arith, ap done e, ltb-false)
     go false t (Memᴰ.tail k) h = h k
+newest-last {r = r} [] m = elim m [ ]
 
 module _ (s : State) where
   -- a record of t, of item i and kind k

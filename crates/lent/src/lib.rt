@@ -2,6 +2,8 @@
 // answered 1 and left as they are; open answers 9 where a length is wrong, and does not look at what stood there.
 // A function that refers to a struct is proved by a walk, so each here is thin: the rows are loaded, a covered function works on them by value,
 // and they are stored. tools/walks prints the walks.
+#![tactic(auto)]
+
 ghost use Rattle.std.specs.Prelude.{◌≡◌, ◌≤◌, length, set};
 ghost use Rattle.rules.specs.Lists.{keep, padded};
 ghost use Rattle.rules.specs.State.{row_of};

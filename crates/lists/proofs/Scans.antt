@@ -76,7 +76,7 @@ module _ {B : Type 0} (n : ℕ) {f : List ℕ → B} {v : B} {j : ℕ} (s : Goin
 
 -- ---- whether one passes, whether all pass
 
-module _ {A : Type 0} {p : A → Bool} {xs : List A} {v : Bool} {j : ℕ} where
+module _ {A : Type 0} (p : A → Bool) {xs : List A} {v : Bool} {j : ℕ} where
   pub any_next : Going xs (any p) v j → (d : A) → j < length xs → p (get_or xs j d) ≡ false → Going xs (any p) v (j + 1)
   any_next s d l e = go_next s d (any p) l (λ ys. ap (λ (b : Bool). b || any p ys) e)
 

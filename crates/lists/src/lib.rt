@@ -1,4 +1,6 @@
 // Tables that a caller lends, changed in place: an entry goes in, the rest is cleared. Records are 64 bits wide, values 32.
+#![tactic(auto)]
+
 ghost use Rattle.std.specs.Prelude.{◌≡◌, length, take};
 ghost use Rattle.rules.specs.Lists.{padded};
 ghost use Rattle.lists.specs.Tables.{insert_in};

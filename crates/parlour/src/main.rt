@@ -1,4 +1,6 @@
 // Runs the step file on standard input and prints its answers, one a line.
+#![tactic(auto)]
+
 ghost use Rattle.std.specs.Prelude.{◌++◌, ◌≡◌, ◌+◌, ◌*◌, ◌≤◌, length, take};
 ghost use Rattle.io.specs.Counts.{IsPrefixLen};
 ghost use Rattle.parlour.specs.Text.{decimal, line, lines_in, shown};

@@ -1,4 +1,6 @@
 // The step reader: it keeps the caller's bytes and its place in them.
+#![tactic(auto)]
+
 ghost use Rattle.std.specs.Prelude.{◌≡◌, ◌≤◌, ◌<◌, ◌^◌, length};
 ghost use Rattle.reader.specs.Place.{next_at, after};
 
@@ -11,7 +13,7 @@ pub struct StepReader<'a> {
 }
 
 // What stands at a place, and the place behind it.
-#[derive(Drop)]
+#[derive(Clone, Copy)]
 pub struct Next {
     pub decoded: Decoded,
     pub at: usize,

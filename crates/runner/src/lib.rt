@@ -1,4 +1,6 @@
 // A whole step file run into an answer buffer, on tables of its own.
+#![tactic(auto)]
+
 ghost use Rattle.std.specs.Prelude.{◌≡◌, true, ◌*◌, ◌≤◌, ◌<◌, length};
 ghost use Rattle.rules.specs.Lists.{all};
 ghost use Rattle.rules.specs.Machine.{call_of};

@@ -1,5 +1,7 @@
 // The seven calls on lent tables. The tables may be of any length and hold anything: those that are not sound are answered 1 and left as they are.
 // Only open does not look at what stood there.
+#![tactic(auto)]
+
 ghost use Rattle.std.specs.Prelude.{◌≡◌};
 ghost use Rattle.rules.specs.Public.{abort_on, begin_on, commit_on, latest_on, open_on, read_on, write_on};
 ghost use Rattle.calls.specs.Lent.{raw};

@@ -1,5 +1,7 @@
 // The cases of document 01 that no step file reaches or that are not marked P, through the public calls. One answer a line, number and value;
 // for each unsound table, the numbers of the six calls' answers, and whether the tables stayed as they were.
+#![tactic(auto)]
+
 use crate::spoilt::{CASES, show_case, show_long, show_short};
 use calls::Ran;
 use graph::ROWS;

@@ -10,7 +10,7 @@ use terms::{Answer, ItemNo, Moment, Row, TxnNo};
 pub const CASES: u32 = 38;
 
 // A change: which table, where, and what stands there then. Of a record, its transaction, item, kind and word.
-#[derive(Drop)]
+#[derive(Clone, Copy)]
 struct Change {
     table: u32,
     at: usize,

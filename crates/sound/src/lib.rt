@@ -1,4 +1,6 @@
 // Whether lent tables are sound: one test for each sentence of document 01's section.
+#![tactic(auto)]
+
 ghost use Rattle.std.specs.Prelude.{◌≡◌, true, ◌≤◌, length, take};
 ghost use Rattle.rules.specs.Raw.{sound_raw};
 ghost use Rattle.sound.specs.Rows.{ascends, rises};

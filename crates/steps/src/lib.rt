@@ -1,4 +1,6 @@
 // Steps read from the bytes of a step file, and answers written as bytes.
+#![tactic(auto)]
+
 ghost use Rattle.std.specs.Prelude.{◌≡◌, ◌+◌, ◌≤◌, ◌<◌, length};
 ghost use Rattle.steps.specs.Decoding.{answers_of, decoded, field, kind_of, length_of, step_of, steps_of, whole};
 ghost use Rattle.steps.specs.Answers.{answer_at};
@@ -6,7 +8,7 @@ ghost use Rattle.steps.specs.Answers.{answer_at};
 use terms::{Given, ItemNo, Step, TxnNo};
 
 // What stands at the front of a part of a file: a step and its length in bytes, or a bad step.
-#[derive(Drop)]
+#[derive(Clone, Copy)]
 pub enum Decoded {
     Good(Step, usize),
     Bad,

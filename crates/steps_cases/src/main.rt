@@ -1,4 +1,6 @@
 // Decodes a step of each kind, whole and cut, counts the answers of some files, and writes an answer. Prints a line for each.
+#![tactic(auto)]
+
 ghost use Rattle.std.specs.Prelude.{◌<◌, length};
 
 use libc::STDOUT_FILENO;

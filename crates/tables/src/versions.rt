@@ -16,7 +16,7 @@ use graph::ROWS;
 use terms::{ItemNo, Moment, Row, TxnNo, Version};
 
 // The latest version found so far, and the commit of its writer: 0 where there is none.
-#[derive(Drop)]
+#[derive(Clone, Copy)]
 pub struct Best {
     pub commit: Moment,
     pub writer: TxnNo,

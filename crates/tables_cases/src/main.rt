@@ -1,4 +1,6 @@
 // Runs what the tables are read and changed by on one small board, and prints what each gives, one number a line.
+#![tactic(auto)]
+
 ghost use Rattle.std.specs.Prelude.{◌≡◌, ◌<◌};
 ghost use Rattle.terms.specs.Words.{row};
 ghost use Rattle.tables_cases.specs.Board.{board_rows};

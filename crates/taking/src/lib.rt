@@ -1,4 +1,6 @@
 // Rows that go lose their row and their records, and their latest versions pass into the value tables.
+#![tactic(auto)]
+
 ghost use Rattle.std.specs.Prelude.{◌≡◌, map, ◌%◌, ◌<◌, length, take};
 ghost use Rattle.rules.specs.Lists.{keep, padded};
 ghost use Rattle.rules.specs.Raw.{unpack, used_recs, zero_row};

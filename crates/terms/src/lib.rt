@@ -1,20 +1,22 @@
 // The words of the scheduler: three kinds of numbers, a transaction's row, an access record, a version, a step and its answer.
+#![tactic(auto)]
+
 ghost use Rattle.std.specs.Prelude.{◌≡◌};
 ghost use Rattle.terms.specs.Words.{active, commit_at, concurrent, goes_on, paper};
 
 // A transaction's number. Number 0 is the opening itself.
-#[derive(Drop)]
+#[derive(Clone, Copy)]
 pub struct TxnNo(pub u32);
 
-#[derive(Drop)]
+#[derive(Clone, Copy)]
 pub struct ItemNo(pub u32);
 
 // A value of the one counter that each accepted begin and each accepted commit takes the next of.
-#[derive(Drop)]
+#[derive(Clone, Copy)]
 pub struct Moment(pub u32);
 
 // A transaction: its number, when it started, and when it committed (0 while it is active).
-#[derive(Drop)]
+#[derive(Clone, Copy)]
 pub struct Row {
     pub number: TxnNo,
     pub start: Moment,
@@ -22,7 +24,7 @@ pub struct Row {
 }
 
 // An access: kind 1 is a read, and the word the writer of the version seen; kind 2 a write, and the word the value.
-#[derive(Drop)]
+#[derive(Clone, Copy)]
 pub struct Rec {
     pub txn: TxnNo,
     pub item: ItemNo,
@@ -31,14 +33,14 @@ pub struct Rec {
 }
 
 // A version of an item: who installed it, and its value.
-#[derive(Drop)]
+#[derive(Clone, Copy)]
 pub struct Version {
     pub writer: TxnNo,
     pub value: u32,
 }
 
 // A step of a step file. Open has the count, and all values start at 0.
-#[derive(Drop)]
+#[derive(Clone, Copy)]
 pub enum Step {
     Open(u32),
     Begin,
@@ -50,7 +52,7 @@ pub enum Step {
 }
 
 // What a call answers: accepted with its value, or refused. The refusals stand in the order of their numbers, 1 to 9.
-#[derive(Drop)]
+#[derive(Clone, Copy)]
 pub enum Answer {
     Accepted(u32),
     UnsoundTables,
@@ -65,7 +67,7 @@ pub enum Answer {
 }
 
 // An answer's number and value, as document 01 gives them.
-#[derive(Drop)]
+#[derive(Clone, Copy)]
 pub struct Given {
     pub number: u32,
     pub value: u32,

@@ -1,5 +1,7 @@
 // The calls with the rows by value, beside the length of the row table that they were loaded from: a table of another length than 32 is answered
 // 1, or 9 by open, and nothing changes. Each says what stands in the row table once the rows to store are stored.
+#![tactic(auto)]
+
 ghost use Rattle.std.specs.Prelude.{◌≡◌, ◌≤◌, eqb, replicate};
 ghost use Rattle.rules.specs.Lists.{keep, padded};
 ghost use Rattle.rules.specs.Raw.{zero_row};
