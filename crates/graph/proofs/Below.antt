@@ -30,6 +30,7 @@ from_any : (n k : ℕ) (s : Nodes) → T (any s (upfrom k n)) → (i : ℕ) × (
 from_any (suc n) k s t =
     ⊎_elim (λ h. (k, omega arith, omega arith, h))
     (λ h. let r = from_any n (suc k) s h in (r.0, omega (arith, r.1), omega (arith, r.2), r.3)) (or_yes (s k) _ t)
+from_any zero k s t = elim t [ ]
 
 pub any_below : (n : ℕ) (s : Nodes) (i : ℕ) → i < n → T (s i) → T (any s (upfrom 0 n))
 any_below n s i h t = any_from n 0 s i (omega arith) (omega arith) t

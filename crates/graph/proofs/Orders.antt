@@ -76,6 +76,7 @@ module _ (e : Edges) where
     where
       head : Founded e b
       head = Least.least tt (λ a k. ⊎_elim (λ d. d) (λ m. absurd (f.0 a m k)) (h b a (Memᴰ.head refl) k))
+  found [] f h x m = elim m [ ]
 
       tail : (x y : ℕ) → Memᴰ x l → T (e y x) → Founded e y ⊎ Memᴰ y l
       tail x y m k =

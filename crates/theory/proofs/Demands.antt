@@ -65,7 +65,7 @@ pub lent-sound : LentSound
 lent-sound = runs.lent-sound
 
 pub lent_serial : LentSerial
-lent_serial = runs.lent-serial
+lent_serial = runs.lent_serial
 
 -- ---- sound tables
 pub sound-stays : SoundKept

@@ -69,6 +69,7 @@ module _ (rank : ℕ → ℕ) where
 
   pub sort_in : {z : ℕ} (xs : List ℕ) → z ∈ xs → z ∈ sort rank xs
   sort_in (x ∷ xs) m = place_in x (sort rank xs) (⊎_elim (λ e. inl e) (λ n. inr (sort_in xs n)) (Memᴰ.cases_cons m))
+  sort_in {z = z} [] m = elim m [ ]
 
   pub sort_ordered : (xs : List ℕ) → pairs ltb xs ≡ true → pairs (is_ordered rank) (sort rank xs) ≡ true
   sort_ordered [] h = refl
