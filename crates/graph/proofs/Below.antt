@@ -90,6 +90,8 @@ unless_less false false m n f h = omega arith
 
 unless_new : (a b : Bool) (m n : ℕ) → T (not a) → T b → m ≤ n → unless b m < unless a n
 unless_new false true m n p q h = omega arith
+unless_new false false m n p q h = elim q [ ]
+unless_new true b m n p q h = elim p [ ]
 
 unless-le : (b : Bool) (m n : ℕ) → m ≤ n → unless b m ≤ suc n
 unless-le true m n h = omega arith

@@ -1,7 +1,7 @@
 -- Sets and tables of sets, test by test and row by row. Assumes nothing.
 use mathlib.Core.Path.{◌≡◌, refl, sym, ◌∙◌}
 use mathlib.Core.Logic.{◌≢◌}
-use mathlib.Core.Bool.{true, false, or_false}
+use mathlib.Core.Bool.{true, false, or-false}
 use mathlib.Core.List.{List}
 use Prim.Native.Nat.{ℕ, ◌+◌, ◌^◌, ◌<◌}
 use native.Mathlib.Omega.{arith}
@@ -23,7 +23,7 @@ module _ (m k : ℕ) (f : Nodes) (h : Filled m k f) where
   filled_skip n = record { low = below_more _ k h.low (h.high k (omega arith) ∙ sym n); high = λ j l. h.high j (omega arith) }
 
   other : (j : ℕ) → (k ≡ j → ⊥) → member (bit_or m (2 ^ k)) j ≡ member m j
-  other j n = member_with m k j ∙ rw (ne_eqb k j n, or_false)
+  other j n = member_with m k j ∙ rw (ne_eqb k j n, or-false)
 
   pub filled_more : f k ≡ true → Filled (bit_or m (2 ^ k)) (k + 1) f
   filled_more n =

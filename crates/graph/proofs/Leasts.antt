@@ -3,7 +3,7 @@ use mathlib.Core.Logic.{◌⊎◌, ◌↔◌, ⊎_elim}
 use mathlib.Core.Bool.{not}
 use Prim.Native.Nat.{ℕ}
 use lib.Dec.{T, T_not, not_T}
-use Rattle.rules.specs.Graph.{Nodes, Edges, Least, Least.least}
+use Rattle.rules.specs.Graph.{Nodes, Edges, Least}
 use Rattle.laws.proofs.Graph.{Founded, least_back, least-old}
 use Rattle.graph.specs.Reach.{Reached}
 

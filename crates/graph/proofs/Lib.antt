@@ -9,3 +9,4 @@ pub mod Leasts
 pub mod Ranks
 pub mod Orders
 mod Cases
+pub mod Turns

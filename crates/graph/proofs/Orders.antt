@@ -7,7 +7,7 @@ use mathlib.Core.List.{List, [], ◌∷◌, ◌++◌, Memᴰ}
 use Prim.Native.Nat.{ℕ}
 use lib.Dec.{T, eqb, eqb→eq, eqb_refl, T_not, not_T}
 use Rattle.rules.specs.Lists.{keep}
-use Rattle.rules.specs.Graph.{Nodes, Edges, Way, Reaches, Least, Least.least}
+use Rattle.rules.specs.Graph.{Nodes, Edges, Way, Reaches, Least}
 use Rattle.graph.specs.Reach.{Reached}
 use Rattle.graph.proofs.Ways.{turned, back}
 use Rattle.laws.proofs.Graph.{Founded}
@@ -17,10 +17,10 @@ use Rattle.graph.proofs.Tests.{failed, passes}
 -- ---- the nodes of a list that pass a test
 
 keep_out : (s : Nodes) (l : List ℕ) {y : ℕ} → Memᴰ y (keep s l) → Memᴰ y l × T (s y)
-keep_out s l m = let u = keeps.keep_out s l m in (u.0, keeps.T-in u.1)
+keep_out s l m = let u = keeps.keep_out s l m in (u.0, keeps.T_in u.1)
 
 keep_in : (s : Nodes) (l : List ℕ) {y : ℕ} → Memᴰ y l → T (s y) → Memᴰ y (keep s l)
-keep_in s l {y} m t = keeps.keep-in s m (keeps.T-out (s y) t)
+keep_in s l {y} m t = keeps.keep_in s m (keeps.T_out (s y) t)
 
 -- ---- every edge goes forward
 
@@ -76,11 +76,11 @@ module _ (e : Edges) where
     where
       head : Founded e b
       head = Least.least tt (λ a k. ⊎_elim (λ d. d) (λ m. absurd (f.0 a m k)) (h b a (Memᴰ.head refl) k))
-  found [] f h x m = elim m [ ]
 
       tail : (x y : ℕ) → Memᴰ x l → T (e y x) → Founded e y ⊎ Memᴰ y l
       tail x y m k =
           ⊎_elim (λ d. inl d) (λ m. ⊎_elim (λ q. inl (subst (Founded e) (sym q) head)) (λ m. inr m) (Memᴰ.cases_cons m)) (h x y (Memᴰ.tail m) k)
+  found [] f h x m = elim m [ ]
 
   pub ordered_founded : (l : List ℕ) → Forward e l → ((a b : ℕ) → T (e a b) → Memᴰ a l) → (x : ℕ) → Founded e x
   ordered_founded l f has x = Least.least tt (λ a k. found l f (λ x y m k. inr (has y x k)) a (has a x k))

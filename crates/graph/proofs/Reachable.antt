@@ -8,7 +8,7 @@ use native.Mathlib.Omega.{arith}
 use lib.Dec.{T}
 use mir.Facts.{and_yes, yes_and, or_yes}
 use Rattle.rules.specs.Lists.{any, times, upfrom}
-use Rattle.rules.specs.Graph.{Nodes, Edges, Way, Way.end, Reaches}
+use Rattle.rules.specs.Graph.{Nodes, Edges, Way, Reaches}
 use Rattle.graph.specs.Reach.{Closed, Reached, tab, on, spread, reachable, ringed}
 use Rattle.graph.specs.Visit.{free}
 use Rattle.graph.proofs.Tests.{passes, failed, same, or_left, or_right}

@@ -5,7 +5,7 @@ use mathlib.Core.Bool.{not, ◌||◌}
 use Prim.Native.Nat.{ℕ, ◌<◌}
 use lib.Dec.{T, eqb, eqb→eq, eqb_refl}
 use mir.Facts.{or_yes}
-use Rattle.rules.specs.Graph.{Nodes, Edges, Way, Way.end, Way.step}
+use Rattle.rules.specs.Graph.{Nodes, Edges, Way}
 use Rattle.graph.specs.Reach.{Reached}
 use Rattle.graph.specs.Visit.{free, Visiting, Visited}
 use Rattle.graph.proofs.Tests.{or_left, or_right}

@@ -1,7 +1,7 @@
 -- Ways along edges: turned round, and inside a set that no edge leads out of. Assumes nothing.
 use Prim.Native.Nat.{ℕ}
 use lib.Dec.{T}
-use Rattle.rules.specs.Graph.{Nodes, Edges, Way, Way.end, Way.step}
+use Rattle.rules.specs.Graph.{Nodes, Edges, Way}
 use Rattle.laws.proofs.Graph.{more}
 use Rattle.graph.specs.Reach.{Closed}
 

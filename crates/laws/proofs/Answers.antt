@@ -1,22 +1,18 @@
 -- Each answer is given exactly when its line of the table says so, on every machine and state. Assumes nothing.
 use Prim.Native.Nat.{ℕ, ◌≤◌}
-use mathlib.Core.Bool.{Bool, ◌&&◌, ◌||◌, and-eq-true_iff, false, false≢true, not, true}
+use mathlib.Core.Bool.{Bool, ◌&&◌, ◌||◌, false, false≢true, not, true}
 use mathlib.Core.List.{List, [], ◌∷◌}
-use mathlib.Core.Logic.{◌↔◌, ◌⊎◌, inl, inr}
-use mathlib.Core.Path.{◌≡◌, ◌∙◌, ap, refl, sym}
+use mathlib.Core.Logic.{◌↔◌, inl, inr}
+use mathlib.Core.Path.{◌≡◌, ap, refl, sym}
 use lib.Dec.{eqb, leb}
 use lib.ListN.{length}
 use borrow.Author.Tests.{eq-eqb, eqb-true, le-leb, leb-true, not-true}
 use Rattle.terms.specs.declared.Answer.{Answer}
-use Rattle.terms.specs.declared.Answer.TheVariants.{Accepted, UnsoundTables, NotActive, ClosesRing}
-use Rattle.terms.specs.declared.TxnNo.{TxnNo}
+use Rattle.terms.specs.declared.Answer.TheVariants.{Accepted}
 use Rattle.terms.specs.Words.{num, active}
 use Rattle.rules.specs.State.{State, committing, is_active}
-use Rattle.rules.specs.Deps.{Beaten, Ring}
-use Rattle.rules.specs.Machine.{Abort, Begin, Call, Commit, Latest, Line, Machine, Open, Read, Write, after, lowest, no_rec, no_row, openable, outcome, refused, step, tables, tests, value}
-use Rattle.rules.specs.Answers.{Active, Gives, Opens, Table, line, otherwise, table}
-use Rattle.rules.specs.Sound.{sound}
-use Rattle.rules.specs.Serial.{opens}
+use Rattle.rules.specs.Machine.{Abort, Begin, Call, Commit, Latest, Machine, Open, Read, Write, lowest, no_rec, no_row, openable, outcome, step, tests, value}
+use Rattle.rules.specs.Answers.{Active, Gives, Table, line, otherwise, table}
 use Rattle.laws.proofs.Lists.{and_both, and_left, and_right, any_in, any_out}
 use Rattle.laws.proofs.Beating.{beaten_decides}
 use Rattle.laws.proofs.Rings.{ring_decides}

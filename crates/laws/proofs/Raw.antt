@@ -1,19 +1,17 @@
 -- Lent tables and the states that they hold: sound tables are the padded form of their own state, and a state that fits is found again. Assumes nothing.
 use Prim.Native.Nat.{ℕ, ◌<◌, ◌≤◌, ◌^◌}
-use mathlib.Core.Bool.{Bool, ◌&&◌, and-eq-true_iff, false, not, true}
+use mathlib.Core.Bool.{and-eq-true_iff, false, true}
 use mathlib.Core.List.Memᴰ
-use mathlib.Core.List.{List, [], ◌∷◌, map}
+use mathlib.Core.List.{map}
 use mathlib.Core.Path.{◌∙◌, ◌≡◌, ap, refl, sym}
 use native.Mathlib.Omega.{arith}
 use lib.Dec.{eqb}
-use lib.ListN.{get_or, length, take}
+use lib.ListN.{length, take}
 use borrow.Author.Tests.{eq-eqb, eqb-true, ne_eqb}
 use Rattle.terms.specs.declared.Row.{Row}
 use Rattle.terms.specs.declared.Rec.{Rec}
-use Rattle.terms.specs.declared.Answer.{Answer}
-use Rattle.terms.specs.declared.Answer.TheVariants.{UnsoundTables}
-use Rattle.rules.specs.Lists.{padded, sames, until}
-use Rattle.terms.specs.Words.{done, item, num, row, start, txn}
+use Rattle.rules.specs.Lists.{padded, until}
+use Rattle.terms.specs.Words.{done, item, num, start, txn}
 use Rattle.rules.specs.State.{State}
 use Rattle.rules.specs.Sound.{sound}
 use Rattle.rules.specs.Raw.{Raw, pack, raw_of, same_raw, same_row, sound_raw, state_of, unpack, zero_row}

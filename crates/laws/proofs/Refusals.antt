@@ -10,9 +10,9 @@ use Rattle.terms.specs.declared.Answer.{Answer}
 use Rattle.terms.specs.declared.Answer.TheVariants.{Accepted, NotActive, UnsoundTables}
 use Rattle.terms.specs.Words.{accepted, paper}
 use Rattle.rules.specs.State.{State, is_active}
-use Rattle.rules.specs.Machine.{Abort, Begin, Call, Commit, Latest, Machine, Open, Read, Write, access, after, lowest, outcome, refused, step, tests, value}
+use Rattle.rules.specs.Machine.{Abort, Begin, Call, Commit, Latest, Machine, Open, Read, Write, after, lowest, outcome, refused, step, tests, value}
 use Rattle.rules.specs.Raw.{Raw, sound_raw}
-use Rattle.rules.specs.Public.{call_on, lent, on_sound}
+use Rattle.rules.specs.Public.{call_on, on_sound}
 use Rattle.rules.specs.Serial.{opens}
 
 -- the state after a call goes by its answer

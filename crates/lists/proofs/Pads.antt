@@ -1,13 +1,13 @@
 -- Padding: its length, what does not see it, and what a change of the whole table does to the used part. Assumes nothing.
-use Prim.Native.Nat.{ℕ, zero, suc, ◌+◌, ◌-◌, ◌≤◌, ◌<◌, max}
+use Prim.Native.Nat.{ℕ, zero, suc, ◌+◌, ◌-◌, ◌≤◌, ◌<◌}
 use native.Mathlib.Omega.{arith}
 use mathlib.Core.Bool.{Bool, true, false, cond, ◌&&◌, ◌||◌}
 use mathlib.Core.Path.{◌≡◌, refl, sym, ap, ap₂, ◌∙◌}
 use mathlib.Core.Logic.{◌⊎◌, inl, inr}
 use mathlib.Core.List.Memᴰ
 use mathlib.Core.List.{List, [], ◌∷◌, ◌++◌, map, map-append, append-nil, append_assoc, Memᴰ}
-use lib.ListN.{length, get_or, take, drop, set, replicate, length-append, length-replicate, length-take, length-drop, length-set, length-map, replicate-append-replicate}
-use lib.Seq.{take-append_seam, take-append-add, take-append-le, drop-append-le, set-append_left}
+use lib.ListN.{length, get_or, take, set, replicate, length-append, length-replicate, length-set, length-map, replicate-append-replicate}
+use lib.Seq.{take-append_seam, take-append-add, take-append-le, set-append_left}
 use Rattle.rules.specs.Lists.{any, all, keep, until, padded}
 use Rattle.lists.specs.Tables.{insert_at, insert_in, first_index}
 use Rattle.lists.proofs.Inserts.{length-insert, insert-append}

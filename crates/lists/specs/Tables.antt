@@ -1,5 +1,5 @@
 -- Tables as lists: an element put in at a place, the first place that passes, each element changed at its place. Assumes nothing.
-use Rattle.std.specs.Prelude.{ℕ, zero, suc, Bool, cond, List, [], ◌∷◌, ◌++◌, length, take, drop}
+use Rattle.std.specs.Prelude.{ℕ, zero, suc, Bool, cond, List, [], ◌∷◌, length, take}
 
 module _ {A : Type 0} where
   -- xs with r put in at index n, or at the end where n is past it

@@ -7,7 +7,7 @@ use Rattle.terms.specs.declared.Rec.{Rec}
 use Rattle.terms.specs.declared.Answer.{Answer}
 use Rattle.terms.specs.declared.Answer.TheVariants.{Accepted, NumbersUsedUp, RowsFull, Beaten, BadOpening}
 use Rattle.terms.specs.Words.{row, rec}
-use Rattle.rules.specs.State.{State, opened, closed}
+use Rattle.rules.specs.State.{State, closed}
 use Rattle.rules.specs.Machine.{Call, Open, tables, step}
 use Rattle.rules.specs.Book.{book}
 use Rattle.rules.specs.Parlour.{begin, read, write, commit, abort, latest, state}

@@ -1,7 +1,7 @@
 -- P1 to P8 hold of the definitions, on both machines, by computation; and along them the tables are the pruned history, and sound. Assumes nothing.
 use mathlib.Core.Path.{◌≡◌, refl}
 use mathlib.Core.Bool.{Bool, true, ◌&&◌, ◌||◌}
-use mathlib.Core.List.{List, map}
+use mathlib.Core.List.{map}
 use lib.ListN.{length}
 use lib.Dec.{eqb}
 use Rattle.rules.specs.Lists.{any, all, sames}

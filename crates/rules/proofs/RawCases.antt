@@ -1,7 +1,7 @@
 -- Lent tables: what they hold, which are sound, and what calls leave in them, written out, on a board of 2 rows and 2 records. Assumes nothing.
 use Prim.Native.Nat.{ℕ}
 use mathlib.Core.Path.{◌≡◌, refl}
-use mathlib.Core.Bool.{Bool, true, false}
+use mathlib.Core.Bool.{true, false}
 use mathlib.Core.List.{List, [], ◌∷◌, ◌++◌, map}
 use lib.ListN.{replicate}
 use Rattle.terms.specs.declared.Row.{Row}

@@ -2,7 +2,7 @@
 -- leave what an abort leaves. On a board of 2 rows and 2 records, or of 3 and 4. Assumes nothing.
 use Prim.Native.Nat.{ℕ}
 use mathlib.Core.Path.{◌≡◌, refl}
-use mathlib.Core.Bool.{Bool, true, false, not}
+use mathlib.Core.Bool.{true}
 use mathlib.Core.List.{List, [], ◌∷◌, map}
 use lib.Dec.{ltb}
 use Rattle.terms.specs.declared.Row.{Row}

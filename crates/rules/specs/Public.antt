@@ -4,7 +4,6 @@ use Rattle.terms.specs.declared.TxnNo.{TxnNo}
 use Rattle.terms.specs.declared.ItemNo.{ItemNo}
 use Rattle.terms.specs.declared.Answer.{Answer}
 use Rattle.terms.specs.declared.Answer.TheVariants.{Accepted, UnsoundTables, BadOpening}
-use Rattle.rules.specs.Lists.{last_or}
 use Rattle.rules.specs.State.{State, opened}
 use Rattle.rules.specs.Machine.{Call, Open, Begin, Read, Write, Commit, Abort, Latest, tables, step, openable, Line}
 use Rattle.rules.specs.Raw.{Raw, state_of, raw_of, sound_raw}

@@ -3,7 +3,7 @@ use Rattle.std.specs.Prelude.{ℕ, ◌+◌, ◌*◌, ◌/◌, ◌%◌, ◌^◌, 
 use Rattle.terms.specs.declared.Row.{Row}
 use Rattle.terms.specs.declared.Rec.{Rec}
 use Rattle.rules.specs.Lists.{until, padded, sames}
-use Rattle.terms.specs.Words.{num, start, done, row, txn, item, rec, key}
+use Rattle.terms.specs.Words.{num, start, done, row, rec, key}
 use Rattle.rules.specs.State.{State}
 use Rattle.rules.specs.Sound.{sound}
 

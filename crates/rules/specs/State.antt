@@ -1,9 +1,9 @@
 -- The state of the scheduler: of a whole history since the opening, or of what the tables hold. Assumes nothing.
-use Rattle.std.specs.Prelude.{ℕ, ◌+◌, Bool, true, false, not, ◌&&◌, ◌||◌, List, [], ◌∷◌, ◌++◌, map, replicate, length, eqb, ltb}
+use Rattle.std.specs.Prelude.{ℕ, ◌+◌, Bool, true, false, not, ◌&&◌, List, [], ◌∷◌, ◌++◌, map, replicate, length, eqb, ltb}
 use Rattle.terms.specs.declared.Row.{Row}
 use Rattle.terms.specs.declared.Rec.{Rec}
 use Rattle.rules.specs.Lists.{any, keep}
-use Rattle.terms.specs.Words.{num, start, done, row, active, committed, stamp, txn, item, rec, key}
+use Rattle.terms.specs.Words.{num, start, done, row, active, committed, stamp, txn, item, key}
 
 -- The count of items, the next number and the next moment; for each item the value and the writer that stand below all kept versions;
 -- the rows by ascending number; the access records by transaction, item and kind.

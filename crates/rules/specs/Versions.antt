@@ -1,5 +1,5 @@
 -- Versions: which one is visible, what a transaction reads and writes, and an item's latest value. Assumes nothing.
-use Rattle.std.specs.Prelude.{ℕ, zero, suc, ◌<◌, ◌≤◌, ◌≡◌, Bool, true, ◌&&◌, ◌||◌, cond, get_or, ltb}
+use Rattle.std.specs.Prelude.{ℕ, zero, suc, ◌<◌, ◌≤◌, ◌≡◌, true, ◌&&◌, ◌||◌, cond, get_or, ltb}
 use mathlib.Core.List.{List, [], ◌∷◌, Memᴰ}
 use Rattle.terms.specs.declared.Row.{Row}
 use Rattle.terms.specs.declared.Version.{Version}

@@ -2,19 +2,18 @@
 -- an aborted writer. So their hypotheses are met. Assumes nothing.
 use Prim.Native.Nat.{ℕ, ◌≤◌}
 use mathlib.Core.Path.{◌≡◌, refl}
-use mathlib.Core.Bool.{Bool, true, false}
+use mathlib.Core.Bool.{true, false}
 use mathlib.Core.List.{List, [], ◌∷◌, ◌++◌}
 use native.Mathlib.Omega.{arith}
 use lib.ListN.{length, replicate}
-use Rattle.terms.specs.declared.Answer.TheVariants.{Accepted, UnsoundTables, NotActive, BadOpening, ClosesRing}
+use Rattle.terms.specs.declared.Answer.TheVariants.{Accepted, UnsoundTables, NotActive, BadOpening}
 use Rattle.terms.specs.Words.{row, rec}
 use Rattle.rules.specs.Lists.{mem}
 use Rattle.rules.specs.State.{State, closed, opened}
-use Rattle.rules.specs.Versions.{latest}
-use Rattle.rules.specs.Machine.{Call, Line, Open, final, history, lines, step, tables}
+use Rattle.rules.specs.Machine.{Call, Line, Open, final, history, step, tables}
 use Rattle.rules.specs.Serial.{Serial}
 use Rattle.rules.specs.Raw.{Raw, zero_row}
-use Rattle.rules.specs.Public.{in_range, lines_on, open_on}
+use Rattle.rules.specs.Public.{in_range, open_on}
 use Rattle.rules.specs.Sound.{lawful, sound}
 use Rattle.rules.specs.Book.{book}
 use Rattle.rules.specs.Parlour.{abort, begin, commit, read, state, write}

@@ -6,12 +6,11 @@ use mathlib.Core.Path.{◌∙◌, ◌≡◌, ap, refl, subst, subst₂, sym}
 use native.Mathlib.Omega.{arith}
 use lib.Dec.{T, eqb, ltb}
 use borrow.Author.Tests.{eq-eqb, eqb-false, eqb-true, lt-ltb, ltb-false, ltb-true, not-true}
-use Rattle.laws.proofs.Lists.{T_in, T_out, ◌∈◌, and_both, and_left, and_right, any_in, any_out, mem_in, mem_out, or_cases, or_left, or_right, passed}
+use Rattle.laws.proofs.Lists.{◌∈◌, and_both, and_left, and_right, any_in, any_out, or_cases, or_left, or_right, passed}
 use Rattle.laws.proofs.Rings.{among_in, among_out, depends_out}
 use Rattle.laws.proofs.Versions.{Installed, Unwritten, Writer, commits_out, recorded_in, recorded_out}
 use Rattle.rules.specs.Deps.{dep, depends, follows, overwrites, read_before, reads_from}
 use Rattle.rules.specs.Graph.{Reaches}
-use Rattle.rules.specs.Lists.{mem}
 use Rattle.rules.specs.State.{State, commit_of, commits, start_of, wrote}
 use Rattle.rules.specs.Versions.{version_at}
 use Rattle.terms.specs.Words.{committed, done, is_read, is_write, item, num, start, txn, writer}

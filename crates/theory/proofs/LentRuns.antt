@@ -1,6 +1,6 @@
 -- Lent tables follow the history: from an accepted opening, and from any sound tables. Assumes nothing.
 use Prim.Native.Nat.{ℕ}
-use mathlib.Core.Bool.{Bool, ◌&&◌, false, false≢true, true}
+use mathlib.Core.Bool.{Bool, ◌&&◌, false, true}
 use mathlib.Core.List.Memᴰ
 use mathlib.Core.List.{List, [], ◌∷◌, map}
 use mathlib.Core.Logic.{◌⊎◌, inl, inr}
@@ -9,14 +9,13 @@ use native.Mathlib.Omega.{arith}
 use Rattle.terms.specs.declared.Rec.{Rec}
 use Rattle.terms.specs.declared.Answer.{Answer}
 use Rattle.terms.specs.declared.Answer.TheVariants.{Accepted, BadOpening}
-use Rattle.rules.specs.Lists.{all}
 use Rattle.rules.specs.Machine.{Call, history, openable, states}
-use Rattle.rules.specs.Public.{fitting, in_range, open_on, raws_on}
-use Rattle.rules.specs.Raw.{Raw, raw_of, sound_raw, state_of, unpack, used_recs}
+use Rattle.rules.specs.Public.{fitting, open_on}
+use Rattle.rules.specs.Raw.{Raw, raw_of, state_of, unpack, used_recs}
 use Rattle.rules.specs.Sound.{sound}
 use Rattle.rules.specs.Spent.{prune}
 use Rattle.rules.specs.State.{State, opened}
-use Rattle.laws.proofs.Lists.{◌∈◌, and_left, passed}
+use Rattle.laws.proofs.Lists.{and_left, passed}
 use Rattle.laws.proofs.Raw.{held, unpack_packs}
 use Rattle.theory.proofs.Agreeing.{Agree, from_opening, from_sound}
 use Rattle.theory.proofs.Facts.{lawful_facts, lawful-free}

@@ -1,20 +1,19 @@
 -- Lent tables, call after call: the public calls do to them what the table machine does to the state that they hold. Assumes nothing.
-use Prim.Native.Nat.{ℕ, ◌<◌, ◌≤◌, ◌^◌}
+use Prim.Native.Nat.{ℕ, ◌<◌, ◌^◌}
 use mathlib.Core.Bool.{Bool, ◌&&◌, ◌||◌, cond, false, true}
 use mathlib.Core.List.{List, [], ◌∷◌, map}
 use mathlib.Core.Logic.{◌⊎◌, inl, inr, ⊎_elim}
-use mathlib.Core.Path.{◌∙◌, ◌≡◌, ap, refl, subst, sym}
+use mathlib.Core.Path.{◌∙◌, ◌≡◌, ap, refl, sym}
 use native.Mathlib.Omega.{arith}
-use lib.Dec.{eqb, leb}
+use lib.Dec.{leb}
 use lib.ListN.{length, length-map}
-use borrow.Author.Tests.{eq-eqb, eqb-true, leb-true, ltb-true}
+use borrow.Author.Tests.{eq-eqb, leb-true, ltb-true}
 use Rattle.terms.specs.declared.Rec.{Rec}
 use Rattle.terms.specs.declared.Row.{Row}
-use Rattle.terms.specs.declared.Version.{Version}
 use Rattle.terms.specs.declared.Answer.{Answer}
 use Rattle.terms.specs.declared.Answer.TheVariants.{Accepted, BadOpening}
-use Rattle.terms.specs.Words.{accepted, done, item, num, paper, rec, txn, writer}
-use Rattle.rules.specs.Lists.{all, keep}
+use Rattle.terms.specs.Words.{accepted, item, paper, rec, txn, writer}
+use Rattle.rules.specs.Lists.{all}
 use Rattle.rules.specs.State.{State, begun, committing, dropped, has_read, insert, opened, start_of, with_recs, wrote}
 use Rattle.rules.specs.Versions.{after_read, after_write, version_at, visible}
 use Rattle.rules.specs.Spent.{forget, prune}
