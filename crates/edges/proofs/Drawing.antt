@@ -3,7 +3,7 @@ use Prim.Native.Nat.{ℕ, suc, ◌+◌, ◌-◌, ◌≤◌, ◌<◌}
 use native.Mathlib.Decide.{ℕ_discrete}
 use native.Mathlib.Numerals.{add-one}
 use native.Mathlib.Omega.{arith}
-use mathlib.Core.Bool.{Bool, true, false, not, cond, ◌&&◌, ◌||◌, or_false, and-false, and-true, false≢true}
+use mathlib.Core.Bool.{Bool, true, false, not, cond, ◌&&◌, ◌||◌, or-false, and-false, and-true, false≢true}
 use mathlib.Core.List.{List}
 use mathlib.Core.Logic.{◌⊎◌, inl, inr}
 use mathlib.Core.Path.{◌≡◌, refl, sym, ap, subst, ◌∙◌}
@@ -180,7 +180,7 @@ module _ {w n : ℕ} {rs : List Row} {ps tab ends g : List ℕ} {before k a : �
           none i = s.is ρ i a ∙ ap (λ (b : Bool). (ended rs a i && b) && linked w rs ps i a) (placed-not committed rs a) ∙ ap (λ (b : Bool). b && linked w rs ps i a) (and-false (ended rs a i))
 
           up : (e t o z l r : Bool) → (e ≡ true → l ≡ true) → (e ≡ true → r ≡ false) → ((e && t) && not o) ≡ (e && ((l && (t && not o)) || (r && z)))
-          up true t o z l r hl hr = rw (hl refl, hr refl) (sym (or_false (t && not o)))
+          up true t o z l r hl hr = rw (hl refl, hr refl) (sym (or-false (t && not o)))
           up false t o z l r hl hr = refl
 
           down : (e b t o z l r : Bool) → (e ≡ true → l ≡ true) → (e ≡ true → r ≡ false) → ((e && b) || ((e && t) && o)) ≡ ((e && true) && ((r && z) || (l && (b || (t && o)))))
@@ -196,14 +196,14 @@ module _ {w n : ℕ} {rs : List Row} {ps tab ends g : List ℕ} {before k a : �
           go i j (yes p) (no d) =
               subst (λ (u : ℕ). (cond (eqb a u) (member x j && not (member all j)) (has g u j) || (is_from u && eqb a j)) ≡ ((ended rs (a + 1) u && ended rs (a + 1) j) && linked w rs ps u j)) p
               (rw (eq-eqb a a refl, ne_eqb a j d, self, other j d, by_time ρ not j)
-              (ap (λ (b : Bool). ((ended rs a j && touch w rs ps a j) && not (over rs j a)) || b) (and-false (is_from a)) ∙ or_false _
+              (ap (λ (b : Bool). ((ended rs a j && touch w rs ps a j) && not (over rs j a)) || b) (and-false (is_from a)) ∙ or-false _
               ∙ up (ended rs a j) (touch w rs ps a j) (over rs j a) (touch_by w rs ps j a || (touch w rs ps j a && over rs a j)) (ltb j a) (ltb a j) (λ h. and_left _ _ h) (λ h. le-ltb a j (omega (arith, first j h)))))
           go i j (no d) (yes q) =
               subst (λ (u : ℕ). (cond (eqb a i) (member x u && not (member all u)) (has g i u) || (is_from i && eqb a u)) ≡ ((ended rs (a + 1) i && ended rs (a + 1) u) && linked w rs ps i u)) q
               (rw (eq-eqb a a refl, ne_eqb a i d, self, other i d, none i)
               (and-true (is_from i) ∙ from_is i
               ∙ down (ended rs a i) (touch_by w rs ps a i) (touch w rs ps a i) (over rs i a) (touch w rs ps i a && not (over rs a i)) (ltb i a) (ltb a i) (λ h. and_left _ _ h) (λ h. le-ltb a i (omega (arith, first i h)))))
-          go i j (no p) (no q) = rw (ne_eqb a i p, ne_eqb a j q, other i p, other j q) (ap (λ (b : Bool). has g i j || b) (and-false (is_from i)) ∙ or_false (has g i j) ∙ s.is ρ i j)
+          go i j (no p) (no q) = rw (ne_eqb a i p, ne_eqb a j q, other i p, other j q) (ap (λ (b : Bool). has g i j || b) (and-false (is_from i)) ∙ or-false (has g i j) ∙ s.is ρ i j)
 
       index_next : (e j : ℕ) → has new e j ≡ (ended rs (a + 1) j && marked w rs ps e j)
       index_next e j = met.is e j ∙ (λ q. s.index e j q || (eqb a j && any (hits w e) (mine q))) ∙ go (ℕ_discrete a j)
@@ -211,7 +211,7 @@ module _ {w n : ℕ} {rs : List Row} {ps tab ends g : List ℕ} {before k a : �
           go : Dec (a ≡ j) → ((ended rs a j && marked w rs ps e j) || (eqb a j && marked w rs ps e a)) ≡ (ended rs (a + 1) j && marked w rs ps e j)
           go (yes q) = subst (λ (i : ℕ). ((ended rs a i && marked w rs ps e i) || (eqb a i && marked w rs ps e a)) ≡ (ended rs (a + 1) i && marked w rs ps e i)) q
               ((λ q. (placed-not committed rs a q && marked w rs ps e a) || (eq-eqb a a refl q && marked w rs ps e a)) ∙ ap (λ (b : Bool). b && marked w rs ps e a) (sym self))
-          go (no d) = (λ q. (ended rs a j && marked w rs ps e j) || (ne_eqb a j d q && marked w rs ps e a)) ∙ or_false _ ∙ ap (λ (b : Bool). b && marked w rs ps e j) (sym (other j d))
+          go (no d) = (λ q. (ended rs a j && marked w rs ps e j) || (ne_eqb a j d q && marked w rs ps e a)) ∙ or-false _ ∙ ap (λ (b : Bool). b && marked w rs ps e j) (sym (other j d))
 
       commits-next : (j : ℕ) → ended rs (a + 1) j ≡ true → get_or (set ends a d) j 0 ≡ done (at rs j)
       commits-next j h = go (ℕ_discrete a j)

@@ -2,7 +2,7 @@
 use Prim.Native.Nat.{ℕ, ◌^◌, ◌≤◌, ◌<◌}
 use native.Mathlib.Decide.{ℕ_discrete}
 use native.Mathlib.Omega.{arith}
-use mathlib.Core.Bool.{Bool, true, false, not, cond, ◌&&◌, ◌||◌, or_assoc, or_false, and-true, false≢true}
+use mathlib.Core.Bool.{Bool, true, false, not, cond, ◌&&◌, ◌||◌, or_assoc, or-false, and-true, false≢true}
 use mathlib.Core.List.{List}
 use mathlib.Core.Path.{◌≡◌, refl, sym, ap, subst, ◌∙◌}
 use lib.Bits.{bit_or, bit_and, and_le_l}
@@ -83,7 +83,7 @@ module _ {f : ℕ → Bool} {touched before all left : ℕ} (s : Passing f touch
       }
 
   pub pass_done : left ≡ 0 → (j : ℕ) → member all j ≡ (member before j || (member touched j && f j))
-  pass_done e j = sym (or_false (member all j)) ∙ ap (λ (b : Bool). member all j || (b && f j)) (sym (ap (λ (m : ℕ). member m j) e ∙ member-zero j)) ∙ s.is j
+  pass_done e j = sym (or-false (member all j)) ∙ ap (λ (b : Bool). member all j || (b && f j)) (sym (ap (λ (m : ℕ). member m j) e ∙ member-zero j)) ∙ s.is j
 
 -- ---- an edge to i from each row of a set
 pub record Linking (from i : ℕ) (g₀ g : List ℕ) (left : ℕ) : Type 0 where
@@ -113,7 +113,7 @@ module _ {from i : ℕ} {g₀ g : List ℕ} {left : ℕ} (s : Linking from i g�
       moved false false y r = refl
 
   pub link_done : left ≡ 0 → Linked from i g₀ g
-  link_done e = record { len = s.len; is = λ a j. sym (or_false (has g a j)) ∙ ap (λ (b : Bool). has g a j || (b && eqb i j)) (sym (ap (λ (m : ℕ). member m a) e ∙ member-zero a)) ∙ s.is a j }
+  link_done e = record { len = s.len; is = λ a j. sym (or-false (has g a j)) ∙ ap (λ (b : Bool). has g a j || (b && eqb i j)) (sym (ap (λ (m : ℕ). member m a) e ∙ member-zero a)) ∙ s.is a j }
 
 -- ---- both directions
 pub drawn : (w x y before i : ℕ) (g : List ℕ) {v : ℕ} {new : List ℕ} → x < 2 ^ w → before < 2 ^ w → i < length g → v ≡ outside w x before

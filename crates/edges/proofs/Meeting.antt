@@ -2,7 +2,7 @@
 use Prim.Native.Nat.{ℕ, ◌+◌, ◌^◌, ◌≤◌, ◌<◌}
 use native.Mathlib.Decide.{ℕ_discrete}
 use native.Mathlib.Numerals.{add-one}
-use mathlib.Core.Bool.{Bool, true, false, not, cond, ◌&&◌, ◌||◌, or_false, and_comm, and-false, and-true}
+use mathlib.Core.Bool.{Bool, true, false, not, cond, ◌&&◌, ◌||◌, or-false, and_comm, and-false, and-true}
 use mathlib.Core.List.{List, []}
 use mathlib.Core.Path.{◌≡◌, refl, sym, ap, subst, ◌∙◌}
 use lib.Bits.{bit_or}
@@ -28,7 +28,7 @@ has-put tab i at e j l = go (ℕ_discrete i e)
     go : Dec (i ≡ e) → has (set tab i (bit_or (get_or tab i 0) (2 ^ at))) e j ≡ (has tab e j || (eqb i e && eqb at j))
     go (yes q) = subst (λ (k : ℕ). has (set tab i (bit_or (get_or tab i 0) (2 ^ at))) k j ≡ (has tab k j || (eqb i k && eqb at j))) q
         (rw (get_or-set_same tab i (bit_or (get_or tab i 0) (2 ^ at)) 0 l, eq-eqb i i refl, member_or, member_one) refl)
-    go (no n) = rw (get_or-set_other tab i e (bit_or (get_or tab i 0) (2 ^ at)) 0 (λ q. n (sym q)), ne_eqb i e n) (sym (or_false _))
+    go (no n) = rw (get_or-set_other tab i e (bit_or (get_or tab i 0) (2 ^ at)) 0 (λ q. n (sym q)), ne_eqb i e n) (sym (or-false _))
 
 -- one record is marked in the table
 abbrev Marks : ℕ → ℕ → ℕ → List ℕ → List ℕ → Type 0
@@ -71,8 +71,8 @@ module _ {w at t : ℕ} {ps tab₀ tab : List ℕ} {read by wrote k : ℕ} (s : 
   -- for other rows the table is as it was
   kept : (e j : ℕ) → (at ≡ j → ⊥) → has tab e j ≡ has tab₀ e j
   kept e j n =
-      sym (or_false (has tab e j)) ∙ (λ q. has tab e j || (sym (ne_eqb at j n) q && any (hits w e) (front t (drop k ps)))) ∙ s.same e j
-      ∙ (λ q. has tab₀ e j || (ne_eqb at j n q && any (hits w e) (front t ps))) ∙ or_false (has tab₀ e j)
+      sym (or-false (has tab e j)) ∙ (λ q. has tab e j || (sym (ne_eqb at j n) q && any (hits w e) (front t (drop k ps)))) ∙ s.same e j
+      ∙ (λ q. has tab₀ e j || (ne_eqb at j n q && any (hits w e) (front t ps))) ∙ or-false (has tab₀ e j)
 
   module _ (l : k < length ps) (own : foreign t p ≡ false) where
     same_next : {i r : ℕ} → i ≡ slot w p → i < length tab → r ≡ bit_or (get_or tab i 0) (2 ^ at)
@@ -159,7 +159,7 @@ module _ {w at t : ℕ} {ps tab₀ tab : List ℕ} {read by wrote k : ℕ} (s : 
         go (yes q) = rw (eq-eqb at j q) (and-false (member (bit_or a b) j))
         go (no d) =
             rw (ne_eqb at j d)
-            (and-true (member (bit_or a b) j) ∙ member_or a b j ∙ sym (or_false (member a j || member b j))
+            (and-true (member (bit_or a b) j) ∙ member_or a b j ∙ sym (or-false (member a j || member b j))
             ∙ ap (λ (c : Bool). (member a j || member b j) || c) (sym (ap (λ (l : List ℕ). f l j) none ∙ e j)) ∙ g j d)
 
     pub meet_end : {n : ℕ} (x y : ℕ) → n ≡ k → ((j : ℕ) → member x j ≡ (member (bit_or read wrote) j && not (eqb at j)))
@@ -168,7 +168,7 @@ module _ {w at t : ℕ} {ps tab₀ tab : List ℕ} {read by wrote k : ℕ} (s : 
         record {
           len = s.len;
           count = en ∙ count;
-          is = λ e j. sym (ap (λ (b : Bool). has tab e j || b) (and-false (eqb at j)) ∙ or_false (has tab e j)) ∙ ap (λ (d : List ℕ). has tab e j || (eqb at j && any (hits w e) d)) (sym none) ∙ s.same e j;
+          is = λ e j. sym (ap (λ (b : Bool). has tab e j || b) (and-false (eqb at j)) ∙ or-false (has tab e j)) ∙ ap (λ (d : List ℕ). has tab e j || (eqb at j && any (hits w e) d)) (sym none) ∙ s.same e j;
           touched = without read wrote x (λ l j. meets w (has tab₀) l j) (λ j. refl) hx s.touched;
           by = without by wrote y (λ l j. met_by w (has tab₀) l j) (λ j. refl) hy s.met;
         }

@@ -2,7 +2,7 @@
 use Prim.Native.Nat.{ℕ, ◌+◌, ◌^◌}
 use native.Mathlib.Decide.{ℕ_discrete}
 use native.Mathlib.Omega.{arith}
-use mathlib.Core.Bool.{Bool, true, false, not, ◌&&◌, ◌||◌, or_false}
+use mathlib.Core.Bool.{Bool, true, false, not, ◌&&◌, ◌||◌, or-false}
 use mathlib.Core.List.{List}
 use mathlib.Core.Path.{◌≡◌, refl, sym, ap, subst, ◌∙◌}
 use lib.Bits.{bit_or}
@@ -46,7 +46,7 @@ set_next f rs b m {r} h q c j = ap (λ (k : ℕ). member k j) q ∙ member_with 
   where
     go : Dec (b ≡ j) → (member m j || eqb b j) ≡ placed f rs (b + 1) j
     go (yes e) = subst (λ (i : ℕ). (member m i || eqb b i) ≡ placed f rs (b + 1) i) e (rw (h b, placed-not f rs b, eq-eqb b b refl) (sym (placed_self f rs b ∙ c)))
-    go (no n) = rw (ne_eqb b j n) (or_false _ ∙ h j ∙ sym (placed_other f rs b j n))
+    go (no n) = rw (ne_eqb b j n) (or-false _ ∙ h j ∙ sym (placed_other f rs b j n))
 
 -- a row committed at moment 1 or later is committed
 pub since_one : (r : Row) → since 1 r ≡ committed r

@@ -1,7 +1,7 @@
 -- What the index says of a state: who wrote an item, who touched it, and which rows touch each other. Assumes nothing.
 use Prim.Native.Nat.{ℕ, ◌+◌, ◌≤◌, ◌<◌}
 use native.Mathlib.Omega.{arith}
-use mathlib.Core.Bool.{Bool, true, false, cond, ◌&&◌, ◌||◌, or_false, and-eq-true_iff}
+use mathlib.Core.Bool.{Bool, true, false, cond, ◌&&◌, ◌||◌, or-false, and-eq-true_iff}
 use mathlib.Core.List.{List}
 use mathlib.Core.Path.{◌≡◌, refl, sym, ap, ◌∙◌}
 use lib.Dec.{eqb}
@@ -45,7 +45,7 @@ module _ (w : ℕ) (wide : 256 ≤ w) where
       where
         go : (b : Bool) → (eqb (cond b (w + item (unpack p)) (item (unpack p))) i || eqb (cond b (w + item (unpack p)) (item (unpack p))) (w + i)) ≡ eqb (item (unpack p)) i
         go true = ap (λ (c : Bool). c || eqb (w + item (unpack p)) (w + i)) (ne_eqb (w + item (unpack p)) i (λ (e : w + item (unpack p) ≡ i). omega arith)) ∙ same
-        go false = ap (λ (c : Bool). eqb (item (unpack p)) i || c) low ∙ or_false _
+        go false = ap (λ (c : Bool). eqb (item (unpack p)) i || c) low ∙ or-false _
 
 module _ (w : ℕ) (wide : 256 ≤ w) (rs : List Row) (ps : List ℕ) (s : State) (v : Facts s) (holds : Holds rs ps s) where
   abbrev us : List ℕ
