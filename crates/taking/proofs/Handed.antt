@@ -32,7 +32,7 @@ use Rattle.theory.proofs.Forgetting.{gone_of, rowed_gone}
 use Rattle.edges.specs.Blocks.{at}
 use Rattle.edges.proofs.Places.{in_place}
 use Rattle.taking.specs.Leaving.{place_of}
-use Rattle.taking.specs.Passing.{writes, commit_at, Entry, Entry.kept, Entry.passed, Passed}
+use Rattle.taking.specs.Passing.{writes, commit_at, Entry, Passed}
 use Rattle.taking.proofs.Placed.{place_is, done_at, word_in_lem}
 use Rattle.taking.proofs.Taken.{goes, used}
 

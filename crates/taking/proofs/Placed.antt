@@ -11,7 +11,6 @@ use Rattle.rules.specs.Lists.{padded, all}
 use Rattle.rules.specs.Raw.{zero_row}
 use Rattle.rules.specs.State.{State, is_rec, word_in}
 use Rattle.terms.specs.Words.{num, done, key}
-use Rattle.terms.specs.declared.Row.{Row}
 use Rattle.terms.specs.declared.Rec.{Rec}
 use Rattle.lists.specs.Tables.{first_index}
 use Rattle.lists.proofs.Pads.{get_or-padded, length-padded}
@@ -62,3 +61,4 @@ word_in_lem t i k {x} (y ∷ ys) o m h = go (is_rec t i k y) refl m (λ n. word_
         absurd (omega (arith, ltb-true (key y) (key x) (all_out (λ z. ltb (key y) (key z)) n (and_left _ _ o)), a.0, a.1, a.2, b.0, b.1, b.2))
     go false e (mathlib.Core.List.Memᴰ.head q) r = absurd (false≢true (sym e ∙ ap (is_rec t i k) (sym q) ∙ h))
     go false e (mathlib.Core.List.Memᴰ.tail n) r = r n
+word_in_lem t i k {x = x} [] o m h = elim m [ ]
