@@ -86,8 +86,14 @@ fn show_records(rt: &impl Print, recs: &[u64]) -> io::Result<()> {
     line(rt, records::word_in(recs, TxnNo(1), ItemNo(0), 2) as u64)?;
     line(rt, records::word_in(recs, TxnNo(4), ItemNo(0), 1) as u64)?;
     // Where 2's write of item 1 stands, and where 5's first record would.
-    line(rt, records::place(recs, records::key_of(packed(2, 1, 2, 0))) as u64)?;
-    line(rt, records::place(recs, records::key_of(packed(5, 0, 1, 0))) as u64)
+    line(
+        rt,
+        records::place(recs, records::key_of(packed(2, 1, 2, 0))) as u64,
+    )?;
+    line(
+        rt,
+        records::place(recs, records::key_of(packed(5, 0, 1, 0))) as u64,
+    )
 }
 
 fn show_rows(rt: &impl Print, rs: [Row; ROWS]) -> io::Result<()> {
