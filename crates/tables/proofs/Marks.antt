@@ -1,7 +1,7 @@
 -- The marks of the items that a transaction wrote, record after record. Assumes nothing.
 use Prim.Native.Nat.{ℕ, ◌+◌, ◌<◌, ◌≤◌}
 use native.Mathlib.Omega.{arith}
-use mathlib.Core.Bool.{Bool, true, false, ◌&&◌, ◌||◌, or_false}
+use mathlib.Core.Bool.{Bool, true, false, ◌&&◌, ◌||◌, or-false}
 use mathlib.Core.List.{List, [], ◌∷◌}
 use mathlib.Core.Logic.{◌⊎◌, inl, inr}
 use mathlib.Core.Path.{◌∙◌, ◌≡◌, ap, refl, sym}
@@ -81,8 +81,8 @@ module _ {recs : List ℕ} {t : ℕ} {m : List ℕ} {j : ℕ} (s : Marking recs 
   -- where no used record is left, the marks are right
   pub mark-done : length recs ≤ j → Marked m recs t
   unfolding recorded
-  mark-done l = record { mark = λ i h. sym (or_false (eqb (get_or m i 0) 1)) ∙ scan_done (s.mark i h) l }
+  mark-done l = record { mark = λ i h. sym (or-false (eqb (get_or m i 0) 1)) ∙ scan_done (s.mark i h) l }
 
   pub mark_stop : j < length recs → eqb (get_or recs j 0) 0 ≡ true → Marked m recs t
   unfolding recorded
-  mark_stop l u = record { mark = λ i h. sym (or_false (eqb (get_or m i 0) 1)) ∙ scan_stop (s.mark i h) 0 l u }
+  mark_stop l u = record { mark = λ i h. sym (or-false (eqb (get_or m i 0) 1)) ∙ scan_stop (s.mark i h) 0 l u }

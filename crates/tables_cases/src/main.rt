@@ -6,21 +6,16 @@ ghost use Rattle.terms.specs.Words.{row};
 ghost use Rattle.tables_cases.specs.Board.{board_rows};
 
 use graph::ROWS;
-use libc::STDOUT_FILENO;
+use std::io;
 use tables::{records, rows, versions};
 use terms::{ItemNo, Moment, Rec, Row, TxnNo};
 
-fn line(n: u64) {
-    io::print_decimal(STDOUT_FILENO, n);
-    io::write_all(STDOUT_FILENO, b"\n");
+fn line(rt: &impl Print, n: u64) -> io::Result<()> {
+    println!(rt; "{n}")
 }
 
-fn flag(b: bool) {
-    if b {
-        line(1);
-    } else {
-        line(0);
-    }
+fn flag(rt: &impl Print, b: bool) -> io::Result<()> {
+    if b { line(rt, 1) } else { line(rt, 0) }
 }
 
 fn row(number: u32, start: u32, commit: u32) -> Row
@@ -67,77 +62,83 @@ fn accesses(recs: &mut [u64]) {
 }
 
 // The writer and the value of the version of item i before a moment. The value tables have 7, 8 and 9, by the opening.
-fn show_version(recs: &[u64], i: u32, before: u32)
+fn show_version(rt: &impl Print, recs: &[u64], i: u32, before: u32) -> io::Result<()>
     requires { i < 3 }
 {
     let values = [7, 8, 9];
     let writers = [0, 0, 0];
     let v = versions::visible(&values, &writers, board(), recs, ItemNo(i), Moment(before));
     let w = v.writer;
-    line(w.0 as u64);
-    line(v.value as u64);
+    line(rt, w.0 as u64)?;
+    line(rt, v.value as u64)
 }
 
-fn show_records(recs: &[u64]) {
+fn show_records(rt: &impl Print, recs: &[u64]) -> io::Result<()> {
     // The keys of the packed records, which ascend; then 0.
     let mut j = 0;
     while j < recs.len() {
-        line(records::key_of(recs[j]));
+        line(rt, records::key_of(recs[j]))?;
         j += 1;
     }
     // 3 wrote item 0, and did not read it; 1 wrote 10; 4 saw 1's version.
-    flag(records::has_rec(recs, TxnNo(3), ItemNo(0), 2));
-    flag(records::has_rec(recs, TxnNo(3), ItemNo(0), 1));
-    line(records::word_in(recs, TxnNo(1), ItemNo(0), 2) as u64);
-    line(records::word_in(recs, TxnNo(4), ItemNo(0), 1) as u64);
+    flag(rt, records::has_rec(recs, TxnNo(3), ItemNo(0), 2))?;
+    flag(rt, records::has_rec(recs, TxnNo(3), ItemNo(0), 1))?;
+    line(rt, records::word_in(recs, TxnNo(1), ItemNo(0), 2) as u64)?;
+    line(rt, records::word_in(recs, TxnNo(4), ItemNo(0), 1) as u64)?;
     // Where 2's write of item 1 stands, and where 5's first record would.
-    line(records::place(recs, records::key_of(packed(2, 1, 2, 0))) as u64);
-    line(records::place(recs, records::key_of(packed(5, 0, 1, 0))) as u64);
+    line(
+        rt,
+        records::place(recs, records::key_of(packed(2, 1, 2, 0))) as u64,
+    )?;
+    line(
+        rt,
+        records::place(recs, records::key_of(packed(5, 0, 1, 0))) as u64,
+    )
 }
 
-fn show_rows(rs: [Row; ROWS]) {
-    line(rows::used(rs) as u64);
+fn show_rows(rt: &impl Print, rs: [Row; ROWS]) -> io::Result<()> {
+    line(rt, rows::used(rs) as u64)?;
     // 0 and 1 are not active, 3 and 4 are, 5 is not there.
     let mut t = 0;
     while t < 6 {
-        flag(rows::is_active(rs, TxnNo(t)));
+        flag(rt, rows::is_active(rs, TxnNo(t)))?;
         t += 1;
     }
     let two = rows::row_of(rs, TxnNo(2));
     let c = two.commit;
-    line(c.0 as u64);
+    line(rt, c.0 as u64)?;
     let none = rows::row_of(rs, TxnNo(9));
     let n = none.number;
-    line(n.0 as u64);
+    line(rt, n.0 as u64)
 }
 
-fn show_versions(recs: &[u64]) {
+fn show_versions(rt: &impl Print, recs: &[u64]) -> io::Result<()> {
     // Item 0: 1's commit, at 4, is not before 4, and is before 5. Item 1: 2's. Item 2: nobody's who committed.
-    show_version(recs, 0, 4);
-    show_version(recs, 0, 5);
-    show_version(recs, 1, 7);
-    show_version(recs, 2, 7);
+    show_version(rt, recs, 0, 4)?;
+    show_version(rt, recs, 0, 5)?;
+    show_version(rt, recs, 1, 7)?;
+    show_version(rt, recs, 2, 7)?;
     // 3 is beaten by 1; 4 began after 1's commit, and wrote another item.
-    flag(versions::beaten(board(), recs, TxnNo(3)));
-    flag(versions::beaten(board(), recs, TxnNo(4)));
+    flag(rt, versions::beaten(board(), recs, TxnNo(3)))?;
+    flag(rt, versions::beaten(board(), recs, TxnNo(4)))
 }
 
 // 4 commits at 7; a fifth begins at 8; 3 is taken out.
-fn show_other_rows() {
-    show_rows(rows::commit(board(), TxnNo(4), Moment(7)));
-    show_rows(rows::add(board(), row(5, 8, 0)));
-    show_rows(rows::remove(board(), TxnNo(3)));
+fn show_other_rows(rt: &impl Print) -> io::Result<()> {
+    show_rows(rt, rows::commit(board(), TxnNo(4), Moment(7)))?;
+    show_rows(rt, rows::add(board(), row(5, 8, 0)))?;
+    show_rows(rt, rows::remove(board(), TxnNo(3)))
 }
 
-fn main() {
+fn main(rt: HostRuntime) -> io::Result<()> {
     let mut recs = [0u64; 8];
     accesses(&mut recs);
-    show_records(&recs);
-    show_rows(board());
-    show_versions(&recs);
-    show_other_rows();
+    show_records(&rt, &recs)?;
+    show_rows(&rt, board())?;
+    show_versions(&rt, &recs)?;
+    show_other_rows(&rt)?;
     // 3's records are taken out, and 1's write of item 0 becomes 11.
     records::remove_of(&mut recs, TxnNo(3));
     records::change(&mut recs, packed(1, 0, 2, 11));
-    show_records(&recs);
+    show_records(&rt, &recs)
 }
