@@ -3,125 +3,122 @@
 
 ghost use Rattle.std.specs.Prelude.{◌<◌, length};
 
-use libc::STDOUT_FILENO;
+use std::io;
 use steps::Decoded;
 use terms::{Given, ItemNo, Step, TxnNo};
 
-fn say(word: &[u8]) {
-    io::write_all(STDOUT_FILENO, word);
+fn say(rt: &impl Print, word: &[u8]) -> io::Result<()> {
+    rt.write_all(word)
 }
 
-fn number(n: u64) {
-    say(b" ");
-    io::print_decimal(STDOUT_FILENO, n);
+fn number(rt: &impl Print, n: u64) -> io::Result<()> {
+    print!(rt; " {n}")
 }
 
-fn txn(t: TxnNo) {
-    number(t.0 as u64);
+fn txn(rt: &impl Print, t: TxnNo) -> io::Result<()> {
+    number(rt, t.0 as u64)
 }
 
-fn item(i: ItemNo) {
-    number(i.0 as u64);
+fn item(rt: &impl Print, i: ItemNo) -> io::Result<()> {
+    number(rt, i.0 as u64)
 }
 
-fn show_step(s: Step) {
+fn show_step(rt: &impl Print, s: Step) -> io::Result<()> {
     match s {
         Step::Open(c) => {
-            say(b"open");
-            number(c as u64);
+            say(rt, b"open")?;
+            number(rt, c as u64)
         }
-        Step::Begin => {
-            say(b"begin");
-        }
+        Step::Begin => say(rt, b"begin"),
         Step::Read(t, i) => {
-            say(b"read");
-            txn(t);
-            item(i);
+            say(rt, b"read")?;
+            txn(rt, t)?;
+            item(rt, i)
         }
         Step::Write(t, i, v) => {
-            say(b"write");
-            txn(t);
-            item(i);
-            number(v as u64);
+            say(rt, b"write")?;
+            txn(rt, t)?;
+            item(rt, i)?;
+            number(rt, v as u64)
         }
         Step::Commit(t) => {
-            say(b"commit");
-            txn(t);
+            say(rt, b"commit")?;
+            txn(rt, t)
         }
         Step::Abort(t) => {
-            say(b"abort");
-            txn(t);
+            say(rt, b"abort")?;
+            txn(rt, t)
         }
         Step::Latest(i) => {
-            say(b"latest");
-            item(i);
+            say(rt, b"latest")?;
+            item(rt, i)
         }
     }
 }
 
 // The step at the front of a part, and its length.
-fn show(part: &[u8]) {
+fn show(rt: &impl Print, part: &[u8]) -> io::Result<()> {
     let d = steps::decode(part);
     let Decoded::Good(s, k) = d else {
-        say(b"bad\n");
-        return;
+        return say(rt, b"bad\n");
     };
-    show_step(s);
-    say(b",");
-    number(k as u64);
-    say(b"\n");
+    show_step(rt, s)?;
+    say(rt, b",")?;
+    number(rt, k as u64)?;
+    say(rt, b"\n")
 }
 
 // A part, and the same without its last byte.
-fn show_cut(part: &[u8])
+fn show_cut(rt: &impl Print, part: &[u8]) -> io::Result<()>
     requires { 0 < length part.now }
 {
-    show(part);
+    show(rt, part)?;
     let n = part.len() - 1;
-    show(&part[..n]);
+    show(rt, &part[..n])
 }
 
-fn show_kinds() {
-    show_cut(&[0, 2, 1]);
-    show_cut(&[1]);
-    show_cut(&[2, 1, 0, 1, 1]);
-    show_cut(&[3, 2, 1, 3, 0, 40, 0, 0, 128]);
-    show_cut(&[4, 255, 255]);
-    show_cut(&[5, 0, 2]);
-    show_cut(&[6, 0, 1]);
+fn show_kinds(rt: &impl Print) -> io::Result<()> {
+    show_cut(rt, &[0, 2, 1])?;
+    show_cut(rt, &[1])?;
+    show_cut(rt, &[2, 1, 0, 1, 1])?;
+    show_cut(rt, &[3, 2, 1, 3, 0, 40, 0, 0, 128])?;
+    show_cut(rt, &[4, 255, 255])?;
+    show_cut(rt, &[5, 0, 2])?;
+    show_cut(rt, &[6, 0, 1])?;
     // Unknown kinds, with bytes enough for any body.
-    show(&[7, 0, 0, 0, 0, 0, 0, 0, 0]);
-    show(&[255, 0, 0, 0, 0, 0, 0, 0, 0]);
+    show(rt, &[7, 0, 0, 0, 0, 0, 0, 0, 0])?;
+    show(rt, &[255, 0, 0, 0, 0, 0, 0, 0, 0])
 }
 
-fn show_count(file: &[u8]) {
-    say(b"answers");
-    number(steps::count(file) as u64);
-    say(b"\n");
+fn show_count(rt: &impl Print, file: &[u8]) -> io::Result<()> {
+    say(rt, b"answers")?;
+    number(rt, steps::count(file) as u64)?;
+    say(rt, b"\n")
 }
 
 // P1; two begins and a step that is cut, whose answer is the 10; a file that goes on behind an unknown kind; an empty one.
-fn show_counts() {
+fn show_counts(rt: &impl Print) -> io::Result<()> {
     show_count(
+        rt,
         b"\x00\x02\x00\x01\x01\x02\x01\x00\x00\x00\x02\x02\x00\x01\x00\x03\x01\x00\x01\x00\x28\x00\x00\x00\x03\x02\x00\x00\x00\x32\x00\x00\x00\x04\x01\x00\x04\x02\x00\x06\x01\x00\x06\x00\x00",
-    );
-    show_count(&[1, 1, 6, 0]);
-    show_count(&[1, 7, 1, 1]);
-    show_count(b"");
+    )?;
+    show_count(rt, &[1, 1, 6, 0])?;
+    show_count(rt, &[1, 7, 1, 1])?;
+    show_count(rt, b"")
 }
 
-fn show_bytes(bytes: &[u8]) {
-    say(b"bytes");
+fn show_bytes(rt: &impl Print, bytes: &[u8]) -> io::Result<()> {
+    say(rt, b"bytes")?;
     let mut i = 0;
     while i < bytes.len() {
-        number(bytes[i] as u64);
+        number(rt, bytes[i] as u64)?;
         i += 1;
     }
-    say(b"\n");
+    say(rt, b"\n")
 }
 
 // An answer goes between bytes that stay.
-fn show_answer() {
+fn show_answer(rt: &impl Print) -> io::Result<()> {
     let mut out = [9u8; 7];
     steps::put_answer(
         &mut out,
@@ -131,11 +128,11 @@ fn show_answer() {
             value: 16909060,
         },
     );
-    show_bytes(&out);
+    show_bytes(rt, &out)
 }
 
-fn main() {
-    show_kinds();
-    show_counts();
-    show_answer();
+fn main(rt: HostRuntime) -> io::Result<()> {
+    show_kinds(&rt)?;
+    show_counts(&rt)?;
+    show_answer(&rt)
 }
