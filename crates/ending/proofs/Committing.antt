@@ -13,7 +13,6 @@ use Rattle.terms.specs.Words.{num, stamp}
 use Rattle.rules.specs.Deps.{beaten, ring}
 use Rattle.rules.specs.Graph.{Reaches}
 use Rattle.rules.specs.Raw.{raw_of}
-use Rattle.rules.specs.Sound.{tested}
 use Rattle.rules.specs.State.{State, commits, committing, is_active}
 use Rattle.laws.proofs.Lists.{T_in, T_out, ◌∈◌, both_ways}
 use Rattle.laws.proofs.Raw.{Fits, Packs}
@@ -24,7 +23,7 @@ use Rattle.theory.proofs.Actives.{Active, active_out}
 use Rattle.theory.proofs.EdgesRings.{rings_through}
 use Rattle.theory.proofs.Facts.{Facts, lawful_facts, lawful_from, tested_from}
 use Rattle.theory.proofs.FactsCommit.{facts_commit}
-use Rattle.theory.proofs.PrunedCommit.{mine, mine-committed, mine_in}
+use Rattle.theory.proofs.PrunedCommit.{mine-committed, mine_in}
 use Rattle.bridge.proofs.Holds.{fits_of}
 use Rattle.graph.specs.Sets.{edges as in_table}
 use Rattle.graph.specs.Reach.{ringed}

@@ -10,7 +10,7 @@ use Rattle.terms.specs.Words.{txn}
 use Rattle.terms.specs.declared.Row.{Row}
 use Rattle.terms.specs.declared.Rec.{Rec}
 use Rattle.rules.specs.Lists.{keep, padded}
-use Rattle.rules.specs.Raw.{Raw, raw_of, zero_row}
+use Rattle.rules.specs.Raw.{Raw, zero_row}
 use Rattle.rules.specs.State.{State, dropped, is_active}
 use Rattle.lists.proofs.Keeps.{length-keep}
 use Rattle.lists.proofs.Pads.{length-padded}

@@ -4,8 +4,7 @@ use mathlib.Core.Bool.{true}
 use mathlib.Core.List.{List, map}
 use mathlib.Core.Path.{◌∙◌, ◌≡◌, ap, sym}
 use Rattle.terms.specs.declared.Row.{Row}
-use Rattle.terms.specs.declared.Rec.{Rec}
-use Rattle.rules.specs.Raw.{raw_of, state_of, unpack, used_recs, used_rows}
+use Rattle.rules.specs.Raw.{state_of, unpack, used_recs, used_rows}
 use Rattle.rules.specs.Sound.{lawful, tested}
 use Rattle.rules.specs.State.{State}
 use Rattle.laws.proofs.Lists.{and_left}
