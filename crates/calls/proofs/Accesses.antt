@@ -1,6 +1,6 @@
 -- Reads, writes and looks at the latest value on sound tables: each of their outcomes. What the code has found goes in by equations. Assumes nothing.
 use Prim.Native.Nat.{ℕ, ◌<◌, ◌≤◌, ◌-◌, ◌^◌}
-use mathlib.Core.Bool.{Bool, ◌||◌, cond, false, false≢true, not, true}
+use mathlib.Core.Bool.{Bool, ◌||◌, cond, false, false≢true, true}
 use mathlib.Core.List.{List, [], map}
 use mathlib.Core.Logic.{inl, inr}
 use mathlib.Core.Path.{◌∙◌, ◌≡◌, ap, refl, sym}
@@ -12,7 +12,7 @@ use Rattle.terms.specs.declared.TxnNo.{TxnNo}
 use Rattle.terms.specs.declared.Version.{Version}
 use Rattle.terms.specs.declared.Answer.TheVariants.{Accepted, NotActive, RecordsFull, UnknownItem}
 use Rattle.terms.specs.Words.{rec, start, writer}
-use Rattle.rules.specs.State.{State, has_read, insert, is_active, recorded, row_of, start_of, with_recs, word_in, wrote, written}
+use Rattle.rules.specs.State.{State, has_read, insert, is_active, recorded, row_of, with_recs, word_in, wrote, written}
 use Rattle.rules.specs.Versions.{after_read, after_write, latest, read_value, version_at, visible}
 use Rattle.rules.specs.Machine.{Latest, Read, Write, after, tables, value}
 use Rattle.rules.specs.Answers.{Active}

@@ -1,21 +1,19 @@
 -- A begin on sound tables: each of its outcomes. Assumes nothing.
-use Prim.Native.Nat.{ℕ, ◌+◌, ◌<◌, ◌≤◌}
-use mathlib.Core.Bool.{false, false≢true, true}
-use mathlib.Core.List.{List, [], ◌∷◌}
+use Prim.Native.Nat.{ℕ, ◌+◌, ◌<◌}
+use mathlib.Core.Bool.{true}
+use mathlib.Core.List.{List}
 use mathlib.Core.Logic.{inl, inr}
 use mathlib.Core.Path.{◌∙◌, ◌≡◌, ap, refl, sym}
 use native.Mathlib.Omega.{arith}
 use lib.ListN.{get_or, length, set}
 use Rattle.terms.specs.declared.Answer.TheVariants.{Accepted, NumbersUsedUp, RowsFull}
 use Rattle.terms.specs.Words.{row}
-use Rattle.rules.specs.State.{State, begun}
+use Rattle.rules.specs.State.{begun}
 use Rattle.rules.specs.Machine.{Begin, after, tables}
 use Rattle.rules.specs.Raw.{Raw, raw_of, sound_raw, state_of, used_rows}
 use Rattle.rules.specs.Public.{on_sound}
-use Rattle.bridge.specs.Whole.{rows_in}
 use Rattle.bridge.proofs.Holds.{head-is, holds, rows_used}
 use Rattle.bridge.proofs.HeldChanges.{add_held}
-use Rattle.laws.proofs.Raw.{held}
 use Rattle.calls.proofs.Outcomes.{accept, refuse, sane}
 
 module _ (n m : ℕ) (w : Raw) (h : sound_raw n m w ≡ true) where

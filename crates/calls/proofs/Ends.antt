@@ -1,7 +1,7 @@
 -- Commits and aborts on sound tables: each of their outcomes. What the code has found goes in by equations. Assumes nothing.
 use Prim.Native.Nat.{ℕ, ◌+◌, ◌≤◌}
 use mathlib.Core.Bool.{false, false≢true, true}
-use mathlib.Core.List.{List, [], ◌∷◌, map}
+use mathlib.Core.List.{List, [], map}
 use mathlib.Core.Logic.{inl, inr}
 use mathlib.Core.Path.{◌∙◌, ◌≡◌, ap, refl, subst, sym}
 use native.Mathlib.Omega.{arith}
@@ -11,7 +11,7 @@ use Rattle.terms.specs.declared.TxnNo.{TxnNo}
 use Rattle.terms.specs.declared.Answer.{Answer}
 use Rattle.terms.specs.declared.Answer.TheVariants.{Accepted, ClosesRing, NotActive}
 use Rattle.terms.specs.Words.{stamp}
-use Rattle.rules.specs.State.{State, committing, dropped, is_active}
+use Rattle.rules.specs.State.{committing, dropped, is_active}
 use Rattle.rules.specs.Deps.{Beaten, Ring, beaten, ring}
 use Rattle.rules.specs.Spent.{forget, prune}
 use Rattle.rules.specs.Machine.{Abort, Commit, after, tables}

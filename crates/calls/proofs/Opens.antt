@@ -1,11 +1,10 @@
 -- An opening of lent tables: each of its outcomes. Assumes nothing.
-use Prim.Native.Nat.{ℕ, ◌≤◌, suc, zero}
+use Prim.Native.Nat.{ℕ, ◌≤◌}
 use mathlib.Core.Bool.{Bool, ◌&&◌, and-eq-true_iff, false, true}
 use mathlib.Core.List.{List, [], ◌∷◌}
 use mathlib.Core.Path.{◌∙◌, ◌≡◌, ap, refl, sym}
 use native.Mathlib.Nat.{sub-zero}
 use native.Mathlib.Omega.{arith}
-use lib.Dec.{eqb, leb}
 use lib.ListN.{length, replicate, set, take}
 use borrow.Author.Tests.{eqb-true, leb-true}
 use Rattle.terms.specs.declared.Row.{Row}
