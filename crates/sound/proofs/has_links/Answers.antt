@@ -1,5 +1,5 @@
 -- `sound::has_links` meets its contract: the records, the writers, the items. Assumes nothing.
-use Rattle.std.proofs.Common.{rules, ℕ, List, ◌≡◌, true, take, ltb, sym, ap, ◌∙◌}
+use Rattle.std.proofs.Common.{rules, ℕ, List, take, ltb, sym, ap, ◌∙◌}
 use Rattle.rules.specs.Lists.{pairs}
 use Rattle.laws.proofs.Rows.{pairs-num}
 use Rattle.sound.proofs.Telling.{links_told, links_unbased, links_unfiled}

@@ -1,5 +1,5 @@
 -- `sound::base::has_base` meets its contract: all are below the lowest, or `Going`, for all. Assumes nothing.
-use Rattle.std.proofs.Common.{rules, arith, not, take, sym, ap, ◌∙◌, le-ltb, lt-ltb, ltb-true}
+use Rattle.std.proofs.Common.{rules, not, take, sym, ap, ◌∙◌, le-ltb, lt-ltb, ltb-true}
 use Rattle.laws.proofs.Lists.{all_in, all_out}
 use Rattle.sound.specs.Base.{based_on, fair}
 use Rattle.sound.proofs.Chains.{on, off}

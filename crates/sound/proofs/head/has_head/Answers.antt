@@ -32,7 +32,7 @@ overflow_add-next c = omega (arith, c.commits-ended.ensures, few c.args.used c.a
 pub returns-then-moment-next : goal.returns-then-moment-next
 returns-then-moment-next c =
     let a = c.args in
-    on (le-leb _ _ c.if-count-lt1.false) (on (le-leb _ _ c.if-count-gt256.false) (on (le-leb _ _ c.if-next-lt1.false) (on (le-leb _ _ c.if-next-gt65536.false) 
+    on (le-leb _ _ c.if-count-lt1.false) (on (le-leb _ _ c.if-count-gt256.false) (on (le-leb _ _ c.if-next-lt1.false) (on (le-leb _ _ c.if-next-gt65536.false)
     (off _ (lt-leb (a.next + length (keep committed (take a.used a.rows))) a.moment (omega (arith, c.commits-ended.ensures)))))))
     ∙ sym (head-is _)
 
@@ -45,6 +45,6 @@ returns c =
     let us = take a.used a.rows in
     let same : a.moment + 1 + (a.used - c.commits-ended.result) ≡ a.moment + 1 + length (keep active us)
     = omega (arith, c.commits-ended.ensures, parted us, length-take a.used a.rows) in
-    on (le-leb _ _ c.if-count-lt1.false) (on (le-leb _ _ c.if-count-gt256.false) (on (le-leb _ _ c.if-next-lt1.false) (on (le-leb _ _ c.if-next-gt65536.false) 
+    on (le-leb _ _ c.if-count-lt1.false) (on (le-leb _ _ c.if-count-gt256.false) (on (le-leb _ _ c.if-next-lt1.false) (on (le-leb _ _ c.if-next-gt65536.false)
     (on (le-leb (a.next + length (keep committed us)) a.moment (omega (arith, c.commits-ended.ensures))) (ap (λ (k : ℕ). leb k (2 * a.next)) same)))))
     ∙ sym (head-is _)

@@ -1,5 +1,5 @@
 -- `sound::items::earlier` meets its contract: `Tabling` of sets, each what `Ended` says. Assumes nothing.
-use Rattle.std.proofs.Common.{rules, arith, ℕ, not, ◌≡◌, length, length-set, refl, sym, ap, subst, ◌∙◌}
+use Rattle.std.proofs.Common.{rules, arith, ℕ, not, ◌≡◌, length-set, refl, sym, ap, subst, ◌∙◌}
 use Rattle.graph.proofs.Fills.{Tabling, tabled_all, tabled_more, tabled_none}
 use Rattle.sound.specs.Items.{earlier_than}
 use Rattle.sound.proofs.Earlier.{ended-active, ended-commit, ended_fill, ended-start}

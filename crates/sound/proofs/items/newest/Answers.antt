@@ -1,5 +1,5 @@
 -- `sound::items::newest` meets its contract. Assumes nothing.
-use Rattle.std.proofs.Common.{rules, ℕ, Bool, cond, get_or, sym, ap, ◌∙◌, eq-eqb, ne_eqb}
+use Rattle.std.proofs.Common.{ℕ, Bool, cond, get_or, sym, ap, ◌∙◌, eq-eqb, ne_eqb}
 use Rattle.sound.specs.Items.{newest_of, top}
 use Rattle.sound.proofs.items.newest.Goals as goal
 

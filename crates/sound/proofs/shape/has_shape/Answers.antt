@@ -12,20 +12,20 @@ returns-then-head-ne3 c = off _ (ne_eqb _ _ c.if-head-ne3.true)
 
 pub returns-then-count-gt-ITEMS : goal.returns-then-count-gt-ITEMS
 unfolding shaped
-returns-then-count-gt-ITEMS c = 
+returns-then-count-gt-ITEMS c =
     on (eq-eqb _ _ c.if-head-ne3.false)
     (off _ (lt-leb _ _ c.if-count-gt-ITEMS.true))
 
 pub returns-then-values-ne-ITEMS : goal.returns-then-values-ne-ITEMS
 unfolding shaped
-returns-then-values-ne-ITEMS c = 
+returns-then-values-ne-ITEMS c =
     on (eq-eqb _ _ c.if-head-ne3.false)
     (on (le-leb _ _ c.if-count-gt-ITEMS.false)
     (off _ (ne_eqb _ _ c.if-values-ne-ITEMS.true)))
 
 pub returns-then-writers-ne-ITEMS : goal.returns-then-writers-ne-ITEMS
 unfolding shaped
-returns-then-writers-ne-ITEMS c = 
+returns-then-writers-ne-ITEMS c =
     on (eq-eqb _ _ c.if-head-ne3.false)
     (on (le-leb _ _ c.if-count-gt-ITEMS.false)
     (on (eq-eqb _ _ c.if-values-ne-ITEMS.false)
@@ -33,7 +33,7 @@ returns-then-writers-ne-ITEMS c =
 
 pub returns-then-recs-ne-RECS : goal.returns-then-recs-ne-RECS
 unfolding shaped
-returns-then-recs-ne-RECS c = 
+returns-then-recs-ne-RECS c =
     on (eq-eqb _ _ c.if-head-ne3.false)
     (on (le-leb _ _ c.if-count-gt-ITEMS.false)
     (on (eq-eqb _ _ c.if-values-ne-ITEMS.false)
@@ -42,7 +42,7 @@ returns-then-recs-ne-RECS c =
 
 pub returns-then-not-zeros_from : goal.returns-then-not-zeros_from
 unfolding shaped
-returns-then-not-zeros_from c = 
+returns-then-not-zeros_from c =
     on (eq-eqb _ _ c.if-head-ne3.false)
     (on (le-leb _ _ c.if-count-gt-ITEMS.false)
     (on (eq-eqb _ _ c.if-values-ne-ITEMS.false)
@@ -52,7 +52,7 @@ returns-then-not-zeros_from c =
 
 pub returns-then-not-zeros_from-2 : goal.returns-then-not-zeros_from-2
 unfolding shaped
-returns-then-not-zeros_from-2 c = 
+returns-then-not-zeros_from-2 c =
     on (eq-eqb _ _ c.if-head-ne3.false)
     (on (le-leb _ _ c.if-count-gt-ITEMS.false)
     (on (eq-eqb _ _ c.if-values-ne-ITEMS.false)
@@ -66,7 +66,7 @@ no_rows_from-requires c = omega (arith, c.requires.0, first_most no_row c.args.r
 
 pub returns-then-not-no_rows_from : goal.returns-then-not-no_rows_from
 unfolding shaped
-returns-then-not-no_rows_from c = 
+returns-then-not-no_rows_from c =
     on (eq-eqb _ _ c.if-head-ne3.false)
     (on (le-leb _ _ c.if-count-gt-ITEMS.false)
     (on (eq-eqb _ _ c.if-values-ne-ITEMS.false)
@@ -81,7 +81,7 @@ no_recs_from-requires c = omega (arith, c.requires.1, first_most is_zero c.args.
 
 pub returns : goal.returns
 unfolding shaped
-returns c = 
+returns c =
     on (eq-eqb _ _ c.if-head-ne3.false)
     (on (le-leb _ _ c.if-count-gt-ITEMS.false)
     (on (eq-eqb _ _ c.if-values-ne-ITEMS.false)
