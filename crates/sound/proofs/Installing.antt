@@ -2,7 +2,7 @@
 use Prim.Native.Nat.{ℕ, zero, suc, ◌+◌, ◌^◌, ◌≤◌, ◌<◌}
 use native.Mathlib.Omega.{arith}
 use native.Mathlib.Decide.{ℕ_discrete}
-use mathlib.Core.Bool.{Bool, true, false, ◌&&◌, ◌||◌, or_false, false≢true}
+use mathlib.Core.Bool.{Bool, true, false, ◌&&◌, ◌||◌, or-false, false≢true}
 use mathlib.Core.Logic.{◌⊎◌, inl, inr}
 use mathlib.Core.Path.{◌≡◌, refl, sym, ap, ◌∙◌}
 use mathlib.Core.List.{List}
@@ -95,7 +95,7 @@ module _ (n : ℕ) (rs : List Row) (ps : List ℕ) (h : n ≤ length rs) (asc : 
           ∙ (λ t. member (get_or tab (sym z t) 0) j || (sym (eq-eqb (item (unpack (get_or ps k 0))) e (sym ex ∙ sym z)) t && eqb i j))
       put e j (no z) =
           ap (λ (y : ℕ). member y j) (get_or-set_other tab x e (bit_or (get_or tab x 0) (2 ^ i)) 0 z)
-          ∙ sym (ap (λ (b : Bool). member (get_or tab e 0) j || (b && eqb i j)) (ne_eqb (item (unpack (get_or ps k 0))) e (λ q. z (sym q ∙ sym ex))) ∙ or_false (member (get_or tab e 0) j))
+          ∙ sym (ap (λ (b : Bool). member (get_or tab e 0) j || (b && eqb i j)) (ne_eqb (item (unpack (get_or ps k 0))) e (λ q. z (sym q ∙ sym ex))) ∙ or-false (member (get_or tab e 0) j))
 
       new : (t e j : ℕ) → e < 256 → installs n rs e j (get_or ps t 0) ≡ true → t < k + 1 → Dec (t ≡ k) → (member (get_or tab e 0) j || (eqb (item (unpack (get_or ps k 0))) e && eqb i j)) ≡ true
       new t e j q g b (yes z) = or_right (member (get_or tab e 0) j) _ (and_right (is_install (get_or ps k 0) (at rs i)) _ (sym (here e j) ∙ ap (λ (y : ℕ). installs n rs e j (get_or ps y 0)) (sym z) ∙ g))

@@ -12,8 +12,8 @@ use Rattle.lists.proofs.Scans.{Going, go_next, go_done, part_next, part_here, pa
 
 module _ {A : Type 0} where
   -- what is left is what is asked for
-  pub all_from : {p : A → Bool} {xs : List A} {j : ℕ} → j ≤ length xs → Going xs (all p) (all p (drop j xs)) j
-  all_from h = record { at_most = h; same = refl }
+  pub all_from : (p : A → Bool) {xs : List A} {j : ℕ} → j ≤ length xs → Going xs (all p) (all p (drop j xs)) j
+  all_from p h = record { at_most = h; same = refl }
 
   -- ---- all, with no way out: b so far, and what the rest adds
   abbrev pub still : (A → Bool) → Bool → List A → Bool
