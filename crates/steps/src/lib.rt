@@ -42,6 +42,7 @@ pub fn four(part: &[u8], at: usize) -> u32
 }
 
 // How long a step of a kind is; 0 for an unknown kind.
+#[tactic(auto, unfolding(crate::specs::Decoding::length_of))]
 fn length_of(kind: u8) -> usize
     ensures { result ≡ length_of kind }
 {
@@ -55,6 +56,7 @@ fn length_of(kind: u8) -> usize
 }
 
 // How long the step at the front of a part is; 0 where its kind is unknown or its body is cut.
+#[tactic(auto, unfolding(crate::specs::Decoding::whole, crate::specs::Decoding::length_of))]
 fn step_length(part: &[u8]) -> usize
     ensures { result ≡ whole part.now }
 {
