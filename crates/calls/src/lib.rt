@@ -17,7 +17,7 @@ use tables::versions::{beaten, visible};
 use terms::{Answer, ItemNo, Moment, Rec, Row, TxnNo};
 
 // An answer, and the rows after the call.
-#[derive(Drop)]
+#[derive(Clone, Copy)]
 pub struct Ran {
     pub answer: Answer,
     pub rows: [Row; ROWS],

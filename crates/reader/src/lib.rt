@@ -6,7 +6,7 @@ ghost use Rattle.reader.specs.Place.{next_at, after};
 
 use steps::{Decoded, decode};
 
-#[derive(Drop)]
+#[derive(Clone, Copy)]
 pub struct StepReader<'a> {
     file: &'a [u8],
     at: usize,

@@ -14,7 +14,7 @@ use graph::ROWS;
 use terms::{Answer, ItemNo, Row, TxnNo};
 
 // An answer, and the rows to store: the first `count` of `rows`.
-#[derive(Drop)]
+#[derive(Clone, Copy)]
 pub struct Done {
     pub answer: Answer,
     pub count: usize,
