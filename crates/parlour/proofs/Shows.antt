@@ -14,7 +14,7 @@ use Rattle.terms.specs.declared.Given.{Given}
 use Rattle.rules.specs.Lists.{all}
 use Rattle.laws.proofs.Lists.{and_left, and_right, passed}
 use Rattle.steps.specs.Answers.{answer_bytes, encoded, with_answers}
-use Rattle.steps.specs.Decoding.{BadAt, Done, End, field, number, steps_of}
+use Rattle.steps.specs.Decoding.{BadAt, Done, End, field, steps_of}
 use Rattle.steps.specs.Format.{le}
 use Rattle.steps.proofs.Counts.{answers_few}
 use Rattle.steps.proofs.Numbers.{number-le}

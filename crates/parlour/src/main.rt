@@ -5,8 +5,8 @@ ghost use Rattle.std.specs.Prelude.{◌++◌, ◌≡◌, ◌+◌, ◌*◌, ◌�
 ghost use Rattle.io.specs.Counts.{IsPrefixLen};
 ghost use Rattle.parlour.specs.Text.{decimal, line, lines_in, shown};
 
-use libc::{STDIN_FILENO, STDOUT_FILENO};
 use runner::run;
+use std::io::Read;
 use steps::four;
 
 fn wide(b: u8) -> u64
@@ -70,10 +70,27 @@ fn report(file: &[u8], text: &mut [u8]) -> usize
     put_lines(text, &answers, (r % 65536) as usize)
 }
 
-fn main() {
+// Fills the buffer from the input, as far as that goes, and answers how many bytes it is. A failed read counts as the end of the input.
+fn read_full(input: &mut impl Read, buf: &mut [u8]) -> usize
+    ensures { result ≤ length buf.new }
+{
+    let mut done = 0;
+    while done < buf.len() {
+        let Ok(n) = input.read(&mut buf[done..]) else {
+            return done;
+        };
+        if n == 0 {
+            return done;
+        }
+        done += n;
+    }
+    done
+}
+
+fn main(rt: HostRuntime) -> std::io::Result<()> {
     let mut file = [0u8; 8193];
-    let n = io::read_full(STDIN_FILENO, &mut file);
+    let n = read_full(&mut rt.reader(), &mut file);
     let mut text = [0u8; 344064];
     let k = report(&file[..n], &mut text);
-    io::write_all(STDOUT_FILENO, &text[..k]);
+    rt.write_all(&text[..k])
 }

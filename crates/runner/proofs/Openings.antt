@@ -1,17 +1,14 @@
 -- A step as a call. One that opens has as many zeros as starting values, and more than 256 are refused. Assumes nothing.
 use Prim.Native.Nat.{ℕ, zero, suc, ◌<◌, ◌≤◌}
 use mathlib.Core.Bool.{false, true}
-use mathlib.Core.List.{List, [], ◌∷◌}
+use mathlib.Core.List.{List, ◌∷◌}
 use mathlib.Core.Logic.{◌⊎◌, inl, inr}
 use mathlib.Core.Path.{◌≡◌, ◌∙◌, ap, refl, sym}
 use native.Mathlib.Omega.{arith}
 use lib.ListN.{length, length-replicate, replicate, take}
-use types.Run.{OneOf, miss}
-use denote.Enum.Declared.{tag_of}
 use Rattle.terms.specs.declared.Step.{Step}
 use Rattle.terms.specs.declared.Step.TheVariants.{Abort, Begin, Commit, Latest, Open, Read, Write}
 use Rattle.terms.specs.declared.Answer.{Answer}
-use Rattle.terms.specs.contracts.Step.{the_type}
 use Rattle.terms.specs.declared.Answer.TheVariants.{BadOpening}
 use Rattle.rules.specs.Machine.{call_of, openable}
 use Rattle.rules.specs.Public.{call_on, open_on}
@@ -48,9 +45,9 @@ pub of_step : {s u : Step} (w : Raw) {r : Answer × Raw} → s ≡ u → r ≡ c
 of_step w e p = p ∙ ap (λ (x : Step). call_on 32 256 (call_of x) w) (sym e)
 
 -- a step of any other kind than the first does not open
-pub other_step : (s : Step) → OneOf (1 ∷ 2 ∷ 3 ∷ 4 ∷ 5 ∷ 6 ∷ []) (tag_of the_type s) → opens (call_of s) ≡ false
+pub other_step : (s : Step) → ((c : ℕ) → ¬ (s ≡ Open c)) → opens (call_of s) ≡ false
 unfolding opens call_of
-other_step (Open c) k = absurd (miss (1 ∷ 2 ∷ 3 ∷ 4 ∷ 5 ∷ 6 ∷ []) 0 tt k)
+other_step (Open c) k = absurd (k c refl)
 other_step Begin k = refl
 other_step (Read t i) k = refl
 other_step (Write t i v) k = refl

@@ -166,9 +166,8 @@ pub fn run(file: &[u8], out: &mut [u8]) -> u64
     play(file, out)
 }
 
-// The same for C; include/parlour.h declares it.
-#[unsafe(no_mangle)]
-pub extern "C" fn parlour_run(steps: &[u8], answers: &mut [u8]) -> u64
+// The same under the name that it has for C, where the crate runner_c exports it.
+pub fn parlour_run(steps: &[u8], answers: &mut [u8]) -> u64
     ensures answers_after { (result, answers.new) ≡ run_on 32 256 steps.now answers.old }
     ensures steps_value { result < 65536 * 11 → all narrow (answers_to 32 256 (steps_of steps.now)) ≡ true }
 {
