@@ -27,7 +27,7 @@ pub use Rattle.terms.specs.Words.{num, start, done, row, active, committed, comm
 -- insert: a record put to its place by key
 -- begun, committing, dropped: the state with one more begun, with one committed, without one
 pub use Rattle.rules.specs.State.{State, opened, closed, with_rows, with_recs, row_of, start_of, commit_of, is_active, commits, is_rec, recorded, word_in, has_read, wrote, written, insert, begun, committing, dropped}
--- newest, installers, base_of, versionAt: the version of an item with the latest commit before a moment
+-- newest, installers, base_of, version_at: the version of an item with the latest commit before a moment
 -- visible, Visible: the version visible to a transaction, as a function and as a proposition
 -- read_value, after_read, after_write, latest: what a read, a write and a look at the latest value give and leave
 pub use Rattle.rules.specs.Versions.{newest, installers, base_of, version_at, visible, Installer, LatestBefore, Visible, read_value, after_read, after_write, latest}
@@ -36,7 +36,7 @@ pub use Rattle.rules.specs.Versions.{newest, installers, base_of, version_at, vi
 -- among, depends: edges between committed transactions, and the dependencies between them
 -- Ring, ring: the committed transactions have a dependency cycle, as a proposition and as a test
 pub use Rattle.rules.specs.Deps.{both_wrote, beaten, Beaten, follows, reads_from, overwrites, read_before, dep, among, depends, Ring, spread, reached, ring}
--- old, Spent, isSpent: committed before every active start; the least set of spent ones, as a proposition and as a test
+-- old, Spent, is_spent: committed before every active start; the least set of spent ones, as a proposition and as a test
 -- forget, prune: the state without some transactions, their versions passed into the value tables; without the spent ones
 pub use Rattle.rules.specs.Spent.{old, Spent, sift, unspent, is_spent, forget, prune}
 -- sized, ordered, headed, numbered, timed, owned, based, seen, unmixed, lean: the sentences of "Sound tables"
@@ -51,13 +51,13 @@ pub use Rattle.rules.specs.Machine.{Call, call_of, Machine, history, tables, ope
 -- Active, Table, Gives, table: the table of answer numbers by propositions
 pub use Rattle.rules.specs.Answers.{Active, Table, Gives, Unsound, NoRecord, Opens, table}
 -- pack, unpack, Raw: a record as one number; the five tables as they are lent
--- state_of, rawOf: the state that tables hold, and the tables that hold a state
--- same_row, same_raw, soundRaw: tables are equal, as a test; sound tables
+-- state_of, raw_of: the state that tables hold, and the tables that hold a state
+-- same_row, same_raw, sound_raw: tables are equal, as a test; sound tables
 pub use Rattle.rules.specs.Raw.{pack, unpack, Raw, zero_row, used_rows, used_recs, state_of, raw_of, same_row, same_raw, sound_raw}
 -- fitting: the tables have the board's lengths
--- open_on, begin_on, read_on, write_on, commit_on, abort_on, latestOn: what each public call does to lent tables
--- on_sound, call_on, lines_on, rawsOn: a call that asks for sound tables, any of the seven, and some one after the other
--- inRange: the call writes no value above 4,294,967,295
+-- open_on, begin_on, read_on, write_on, commit_on, abort_on, latest_on: what each public call does to lent tables
+-- on_sound, call_on, lines_on, raws_on: a call that asks for sound tables, any of the seven, and some one after the other
+-- in_range: the call writes no value above 4,294,967,295
 pub use Rattle.rules.specs.Public.{fitting, lent, on_sound, open_on, begin_on, read_on, write_on, commit_on, abort_on, latest_on, call_on, lines_on, raws_on, in_range}
 -- opens, opening, told, committers, acts, in_turn: accepted openings, committed transactions and their acts, by the lines
 -- Store, leaves, Fits, newest_put, Serial: a serial run of them gives every value read and each item's newest value
