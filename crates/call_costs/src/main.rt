@@ -3,12 +3,13 @@
 // bench/calls counts its instructions: what is more than without the calls is their cost.
 #![tactic(auto)]
 
-ghost use Rattle.std.specs.Prelude.{◌<◌};
+ghost use Rattle.std.specs.Prelude.{◌<◌, ◌≤◌, length};
 
 use calls::Ran;
 use graph::ROWS;
-use libc::{STDIN_FILENO, STDOUT_FILENO};
 use scheduler::{abort, begin, commit, latest, open, read, write};
+use std::io;
+use std::io::Read;
 use tables::rows::no_rows;
 use terms::{Answer, ItemNo, Row, TxnNo};
 
@@ -138,9 +139,26 @@ fn one(
     }
 }
 
-fn main() {
+// Fills the buffer from the input, as far as that goes, and answers how many bytes it is. A failed read counts as the end of the input.
+fn read_full(input: &mut impl Read, buf: &mut [u8]) -> usize
+    ensures { result ≤ length buf.new }
+{
+    let mut done = 0;
+    while done < buf.len() {
+        let Ok(n) = input.read(&mut buf[done..]) else {
+            return done;
+        };
+        if n == 0 {
+            return done;
+        }
+        done += n;
+    }
+    done
+}
+
+fn main(rt: HostRuntime) -> io::Result<()> {
     let mut which = [0u8; 1];
-    io::read_full(STDIN_FILENO, &mut which);
+    read_full(&mut rt.reader(), &mut which);
     let mut head = [0; 3];
     let mut values = [0; 256];
     let mut writers = [0; 256];
@@ -156,6 +174,5 @@ fn main() {
         sum += one(which[0], &mut h, &mut v, &mut w, rows, &mut r);
         i += 1;
     }
-    io::print_decimal(STDOUT_FILENO, sum as u64);
-    io::write_all(STDOUT_FILENO, b"\n");
+    println!(rt; "{sum}")
 }

@@ -5,17 +5,16 @@ ghost use Rattle.std.specs.Prelude.{◌≤◌, ◌<◌, length};
 
 use edges::ITEMS;
 use graph::ROWS;
-use libc::STDOUT_FILENO;
+use std::io;
 use tables::{records, rows};
 use terms::{ItemNo, Moment, Rec, Row, TxnNo};
 
-fn word(s: &[u8]) {
-    io::write_all(STDOUT_FILENO, s);
+fn word(rt: &impl Print, s: &[u8]) -> io::Result<()> {
+    rt.write_all(s)
 }
 
-fn number(n: u64) {
-    io::write_all(STDOUT_FILENO, b" ");
-    io::print_decimal(STDOUT_FILENO, n);
+fn number(rt: &impl Print, n: u64) -> io::Result<()> {
+    print!(rt; " {n}")
 }
 
 fn wide(x: u32) -> u64 {
@@ -23,44 +22,51 @@ fn wide(x: u32) -> u64 {
 }
 
 // The first n numbers of a table.
-fn show(xs: &[u32], n: usize)
+fn show(rt: &impl Print, xs: &[u32], n: usize) -> io::Result<()>
     requires { n ≤ length xs.now }
 {
     let mut i = 0;
     while i < n {
-        number(wide(xs[i]));
+        number(rt, wide(xs[i]))?;
         i += 1;
     }
-    word(b"\n");
+    word(rt, b"\n")
 }
 
 // The numbers of the first n rows.
-fn show_rows(rs: [Row; ROWS], n: usize)
+fn show_rows(rt: &impl Print, rs: [Row; ROWS], n: usize) -> io::Result<()>
     requires { n ≤ ROWS }
 {
     let mut i = 0;
     while i < n {
         let r = rs[i];
-        number(wide(r.number.0));
+        number(rt, wide(r.number.0))?;
         i += 1;
     }
-    word(b"\n");
+    word(rt, b"\n")
 }
 
 // Whose the first n records are.
-fn show_records(recs: &[u64], n: usize)
+fn show_records(rt: &impl Print, recs: &[u64], n: usize) -> io::Result<()>
     requires { n ≤ length recs.now }
 {
     let mut i = 0;
     while i < n {
-        number(wide(edges::txn_of(recs[i])));
+        number(rt, wide(edges::txn_of(recs[i])))?;
         i += 1;
     }
-    word(b"\n");
+    word(rt, b"\n")
 }
 
 // Takes the rows of a set out of a board of n rows and m records. The value tables have 7, 8 and 9, by the opening.
-fn take(rs: [Row; ROWS], recs: &mut [u64], n: usize, m: usize, gone: u32)
+fn take(
+    rt: &impl Print,
+    rs: [Row; ROWS],
+    recs: &mut [u64],
+    n: usize,
+    m: usize,
+    gone: u32,
+) -> io::Result<()>
     requires { (n ≤ ROWS) × (m ≤ length recs.old) }
 {
     let mut values = [0; ITEMS];
@@ -69,28 +75,28 @@ fn take(rs: [Row; ROWS], recs: &mut [u64], n: usize, m: usize, gone: u32)
     values[2] = 9;
     let mut writers = [0; ITEMS];
     taking::pass_on(&mut values, &mut writers, rs, recs, gone);
-    word(b"values");
-    show(&values, 3);
-    word(b"writers");
-    show(&writers, 3);
+    word(rt, b"values")?;
+    show(rt, &values, 3)?;
+    word(rt, b"writers")?;
+    show(rt, &writers, 3)?;
     taking::recs_without(recs, rs, gone);
-    word(b"rows");
-    show_rows(taking::rows_without(rs, gone), n);
-    word(b"records");
-    show_records(recs, m);
+    word(rt, b"rows")?;
+    show_rows(rt, taking::rows_without(rs, gone), n)?;
+    word(rt, b"records")?;
+    show_records(rt, recs, m)
 }
 
-fn run(rs: [Row; ROWS], recs: &mut [u64], n: usize, m: usize)
+fn run(rt: &impl Print, rs: [Row; ROWS], recs: &mut [u64], n: usize, m: usize) -> io::Result<()>
     requires { (n ≤ ROWS) × (m ≤ length recs.old) }
 {
     let g = edges::edges(rs, recs);
-    word(b"edges");
-    show(&g, n);
+    word(rt, b"edges")?;
+    show(rt, &g, n)?;
     let gone = edges::spent(rs, &g);
-    word(b"spent");
-    number(wide(gone));
-    word(b"\n");
-    take(rs, recs, n, m, gone);
+    word(rt, b"spent")?;
+    number(rt, wide(gone))?;
+    word(rt, b"\n")?;
+    take(rt, rs, recs, n, m, gone)
 }
 
 fn row(number: u32, start: u32, commit: u32) -> Row {
@@ -131,40 +137,40 @@ fn write(recs: &mut [u64], t: u32, i: u32, value: u32)
 }
 
 // 1 read item 0 as it was before 2 wrote it: 1 leads to 2. None is active, so both are spent.
-fn read_then_overwritten() {
+fn read_then_overwritten(rt: &impl Print) -> io::Result<()> {
     let mut rs = rows::no_rows();
     rs[0] = row(1, 1, 4);
     rs[1] = row(2, 2, 3);
     let mut recs = [0u64; 8];
     read(&mut recs, 1, 0, 0);
     write(&mut recs, 2, 0, 20);
-    run(rs, &mut recs, 2, 2);
+    run(rt, rs, &mut recs, 2, 2)
 }
 
 // The same with the writer first: 2 began before 1's commit and read the opening's version, so 2 leads to 1.
-fn overwritten_unseen() {
+fn overwritten_unseen(rt: &impl Print) -> io::Result<()> {
     let mut rs = rows::no_rows();
     rs[0] = row(1, 1, 3);
     rs[1] = row(2, 2, 4);
     let mut recs = [0u64; 8];
     write(&mut recs, 1, 0, 10);
     read(&mut recs, 2, 0, 0);
-    run(rs, &mut recs, 2, 2);
+    run(rt, rs, &mut recs, 2, 2)
 }
 
 // 2 overwrote 1's version of item 2: 1 leads to 2. Both go, and only the later version passes on.
-fn overwritten() {
+fn overwritten(rt: &impl Print) -> io::Result<()> {
     let mut rs = rows::no_rows();
     rs[0] = row(1, 1, 2);
     rs[1] = row(2, 3, 4);
     let mut recs = [0u64; 8];
     write(&mut recs, 1, 2, 10);
     write(&mut recs, 2, 2, 20);
-    run(rs, &mut recs, 2, 2);
+    run(rt, rs, &mut recs, 2, 2)
 }
 
 // 2 read 1's version of item 1: 1 leads to 2. Both ended before 3 began, so they go, and 3 with its record stays.
-fn read_from() {
+fn read_from(rt: &impl Print) -> io::Result<()> {
     let mut rs = rows::no_rows();
     rs[0] = row(1, 1, 2);
     rs[1] = row(2, 3, 4);
@@ -173,22 +179,22 @@ fn read_from() {
     write(&mut recs, 1, 1, 10);
     read(&mut recs, 2, 1, 1);
     read(&mut recs, 3, 1, 1);
-    run(rs, &mut recs, 3, 3);
+    run(rt, rs, &mut recs, 3, 3)
 }
 
 // 1 read what 2 overwrote, but is active: no edge. 2's commit is after 1's start, so nothing goes.
-fn active_reader() {
+fn active_reader(rt: &impl Print) -> io::Result<()> {
     let mut rs = rows::no_rows();
     rs[0] = row(1, 1, 0);
     rs[1] = row(2, 2, 3);
     let mut recs = [0u64; 8];
     read(&mut recs, 1, 0, 0);
     write(&mut recs, 2, 0, 20);
-    run(rs, &mut recs, 2, 2);
+    run(rt, rs, &mut recs, 2, 2)
 }
 
 // 1 is spent, and its version passes on, though 2 overwrote it: 2 committed after 3's start, and stays.
-fn later_writer_stays() {
+fn later_writer_stays(rt: &impl Print) -> io::Result<()> {
     let mut rs = rows::no_rows();
     rs[0] = row(1, 1, 2);
     rs[1] = row(2, 3, 5);
@@ -197,7 +203,7 @@ fn later_writer_stays() {
     write(&mut recs, 1, 0, 10);
     write(&mut recs, 2, 0, 20);
     read(&mut recs, 3, 0, 1);
-    run(rs, &mut recs, 3, 3);
+    run(rt, rs, &mut recs, 3, 3)
 }
 
 // 1 read what 2 overwrote, and 3 read from 2: 1 leads to 2, and 2 to 3. Nothing leads to 4 or from it.
@@ -219,19 +225,19 @@ fn chain_rows() -> [Row; ROWS] {
 }
 
 // 5 is active since 8. 2, 3 and 4 ended before; 1 did not, so it keeps 2, and 2 keeps 3. Only 4 is spent.
-fn chain_kept() {
+fn chain_kept(rt: &impl Print) -> io::Result<()> {
     let mut rs = chain_rows();
     rs[4] = row(5, 8, 0);
     let mut recs = [0u64; 8];
     chain(&mut recs);
-    run(rs, &mut recs, 5, 5);
+    run(rt, rs, &mut recs, 5, 5)
 }
 
 // With none active all are spent, and each item has the version that was installed last.
-fn chain_spent() {
+fn chain_spent(rt: &impl Print) -> io::Result<()> {
     let mut recs = [0u64; 8];
     chain(&mut recs);
-    run(chain_rows(), &mut recs, 4, 5);
+    run(rt, chain_rows(), &mut recs, 4, 5)
 }
 
 // Item i and the six after it are written by t.
@@ -247,7 +253,7 @@ fn write_seven(recs: &mut [u64], t: u32, i: u32, value: u32)
 
 // 32 rows of 8 records, one after the other: each writes seven items and reads the first of the row before, which leads to it. The last one is
 // active; the others ended before its start, so all of them are spent.
-fn full() {
+fn full(rt: &impl Print) -> io::Result<()> {
     let mut rs = rows::no_rows();
     let mut recs = [0u64; 256];
     rs[0] = row(1, 1, 2);
@@ -264,17 +270,17 @@ fn full() {
     rs[31] = row(32, 63, 0);
     read(&mut recs, 32, 240, 31);
     write_seven(&mut recs, 32, 248, 131);
-    run(rs, &mut recs, 32, 9);
+    run(rt, rs, &mut recs, 32, 9)
 }
 
-fn main() {
-    read_then_overwritten();
-    overwritten_unseen();
-    overwritten();
-    read_from();
-    active_reader();
-    later_writer_stays();
-    chain_kept();
-    chain_spent();
-    full();
+fn main(rt: HostRuntime) -> io::Result<()> {
+    read_then_overwritten(&rt)?;
+    overwritten_unseen(&rt)?;
+    overwritten(&rt)?;
+    read_from(&rt)?;
+    active_reader(&rt)?;
+    later_writer_stays(&rt)?;
+    chain_kept(&rt)?;
+    chain_spent(&rt)?;
+    full(&rt)
 }

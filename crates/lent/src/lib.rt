@@ -1,7 +1,6 @@
 // The seven calls over tables that are all lent, the rows too. The tables may be of any length and hold anything: those that are not sound are
 // answered 1 and left as they are; open answers 9 where a length is wrong, and does not look at what stood there.
-// A function that refers to a struct is proved by a walk, so each here is thin: the rows are loaded, a covered function works on them by value,
-// and they are stored. tools/walks prints the walks.
+// Each call here is thin: the rows are loaded, a function works on them by value, and they are stored.
 #![tactic(auto)]
 
 ghost use Rattle.std.specs.Prelude.{◌≡◌, ◌≤◌, length, set};

@@ -1,8 +1,8 @@
 // A sound board, and tables made of it that are not sound: beside each stands the sentence of "Sound tables" that it breaks. Case 0 is the board itself.
 use calls::Ran;
 use graph::ROWS;
-use libc::STDOUT_FILENO;
 use scheduler::{abort, begin, commit, latest, read, write};
+use std::io;
 use tables::rows::no_rows;
 use terms::{Answer, ItemNo, Moment, Row, TxnNo};
 
@@ -220,10 +220,9 @@ fn build(
     rows
 }
 
-fn show_number(a: Answer) {
+fn show_number(rt: &impl Print, a: Answer) -> io::Result<()> {
     let g = a.given();
-    io::print_decimal(STDOUT_FILENO, g.number as u64);
-    io::write_all(STDOUT_FILENO, b" ");
+    print!(rt; "{} ", g.number)
 }
 
 fn same_rows(a: [Row; ROWS], b: [Row; ROWS]) -> bool {
@@ -275,31 +274,45 @@ fn recs_begin_with(a: &[u64], b: &[u64]) -> bool {
 }
 
 // Reads, writes and looks, and shows the numbers of the answers.
-fn three(head: &[u32], values: &[u32], writers: &[u32], rows: [Row; ROWS], recs: &mut [u64]) {
-    show_number(read(head, values, writers, rows, recs, TxnNo(4), ItemNo(1)));
-    show_number(write(head, values, writers, rows, recs, TxnNo(1), ItemNo(3), 5));
-    show_number(latest(head, values, writers, rows, recs, ItemNo(0)));
+fn three(
+    rt: &impl Print,
+    head: &[u32],
+    values: &[u32],
+    writers: &[u32],
+    rows: [Row; ROWS],
+    recs: &mut [u64],
+) -> io::Result<()> {
+    show_number(
+        rt,
+        read(head, values, writers, rows, recs, TxnNo(4), ItemNo(1)),
+    )?;
+    show_number(
+        rt,
+        write(head, values, writers, rows, recs, TxnNo(1), ItemNo(3), 5),
+    )?;
+    show_number(rt, latest(head, values, writers, rows, recs, ItemNo(0)))
 }
 
-fn shown(r: Ran) -> [Row; ROWS] {
+fn shown(rt: &impl Print, r: Ran) -> io::Result<[Row; ROWS]> {
     let a = r.answer;
-    show_number(a);
-    r.rows
+    show_number(rt, a)?;
+    Ok(r.rows)
 }
 
 // Calls all but open, and shows the numbers of the answers. Did the rows stay?
 fn six(
+    rt: &impl Print,
     head: &mut [u32],
     values: &mut [u32],
     writers: &mut [u32],
     rows: [Row; ROWS],
     recs: &mut [u64],
-) -> bool {
-    let more = shown(begin(head, values, writers, rows, recs));
-    three(head, values, writers, more, recs);
-    let less = shown(commit(head, values, writers, more, recs, TxnNo(4)));
-    let left = shown(abort(head, values, writers, less, recs, TxnNo(1)));
-    same_rows(rows, left)
+) -> io::Result<bool> {
+    let more = shown(rt, begin(head, values, writers, rows, recs))?;
+    three(rt, head, values, writers, more, recs)?;
+    let less = shown(rt, commit(head, values, writers, more, recs, TxnNo(4)))?;
+    let left = shown(rt, abort(head, values, writers, less, recs, TxnNo(1)))?;
+    Ok(same_rows(rows, left))
 }
 
 // Are the slices still as they are made?
@@ -322,51 +335,58 @@ fn unchanged(k: u32, head: &[u32], values: &[u32], writers: &[u32], recs: &[u64]
 }
 
 // Makes the tables of a case in slices of any length, makes the calls, and shows what they answered and whether the tables stayed.
-fn attempt(k: u32, head: &mut [u32], values: &mut [u32], writers: &mut [u32], recs: &mut [u64]) {
+fn attempt(
+    rt: &impl Print,
+    k: u32,
+    head: &mut [u32],
+    values: &mut [u32],
+    writers: &mut [u32],
+    recs: &mut [u64],
+) -> io::Result<()> {
     let rows = build(k, head, values, writers, recs);
-    let stay = six(head, values, writers, rows, recs);
+    let stay = six(rt, head, values, writers, rows, recs)?;
     if stay && unchanged(k, head, values, writers, recs) {
-        io::write_all(STDOUT_FILENO, b"same\n");
+        rt.write_all(b"same\n")
     } else {
-        io::write_all(STDOUT_FILENO, b"changed\n");
+        rt.write_all(b"changed\n")
     }
 }
 
-pub fn show_case(k: u32) {
+pub fn show_case(rt: &impl Print, k: u32) -> io::Result<()> {
     let mut head = [0; 3];
     let mut values = [0; 256];
     let mut writers = [0; 256];
     let mut recs = [0u64; 256];
-    attempt(k, &mut head, &mut values, &mut writers, &mut recs);
+    attempt(rt, k, &mut head, &mut values, &mut writers, &mut recs)
 }
 
 // "the tables have the stated lengths": the board in tables of which one is one too short or one too long.
-pub fn show_short() {
+pub fn show_short(rt: &impl Print) -> io::Result<()> {
     let mut head = [0; 3];
     let mut values = [0; 256];
     let mut writers = [0; 256];
     let mut recs = [0u64; 256];
     let mut less = [0; 2];
-    attempt(0, &mut less, &mut values, &mut writers, &mut recs);
+    attempt(rt, 0, &mut less, &mut values, &mut writers, &mut recs)?;
     let mut most = [0; 255];
-    attempt(0, &mut head, &mut most, &mut writers, &mut recs);
+    attempt(rt, 0, &mut head, &mut most, &mut writers, &mut recs)?;
     let mut least = [0; 255];
-    attempt(0, &mut head, &mut values, &mut least, &mut recs);
+    attempt(rt, 0, &mut head, &mut values, &mut least, &mut recs)?;
     let mut few = [0u64; 255];
-    attempt(0, &mut head, &mut values, &mut writers, &mut few);
+    attempt(rt, 0, &mut head, &mut values, &mut writers, &mut few)
 }
 
-pub fn show_long() {
+pub fn show_long(rt: &impl Print) -> io::Result<()> {
     let mut head = [0; 3];
     let mut values = [0; 256];
     let mut writers = [0; 256];
     let mut recs = [0u64; 256];
     let mut four = [0; 4];
-    attempt(0, &mut four, &mut values, &mut writers, &mut recs);
+    attempt(rt, 0, &mut four, &mut values, &mut writers, &mut recs)?;
     let mut more = [0; 257];
-    attempt(0, &mut head, &mut more, &mut writers, &mut recs);
+    attempt(rt, 0, &mut head, &mut more, &mut writers, &mut recs)?;
     let mut much = [0; 257];
-    attempt(0, &mut head, &mut values, &mut much, &mut recs);
+    attempt(rt, 0, &mut head, &mut values, &mut much, &mut recs)?;
     let mut many = [0u64; 257];
-    attempt(0, &mut head, &mut values, &mut writers, &mut many);
+    attempt(rt, 0, &mut head, &mut values, &mut writers, &mut many)
 }

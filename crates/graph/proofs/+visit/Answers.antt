@@ -25,7 +25,7 @@ bounds-g-i t c =
 
 pub with-requires : goal.with-requires
 with-requires t c =
-    below 32 c.args.from c.loop-from.s c.without-rest.result c.first-i.result c.ranges.from.fits c.loop-from.invariant.0 c.without-rest.ensures c.first-i.ensures
+    omega (arith, below 32 c.args.from c.loop-from.s c.without-rest.result c.first-i.result c.ranges.from.fits c.loop-from.invariant.0 c.without-rest.ensures c.first-i.ensures)
 
 pub overflow_sub-left : goal.overflow_sub-left
 overflow_sub-left t c =

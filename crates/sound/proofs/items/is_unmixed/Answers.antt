@@ -25,7 +25,7 @@ one-late w a b ha hb f =
 pub returns : goal.returns
 returns c =
     let a = c.args in
-    let is = c.without.ensures in (
+    let is : c.without.result ≡ outside 32 a.others a.before = c.without.ensures in (
       λ e j h. T_out _ (outside-none 32 a.others a.before j (search rules) (search rules) (sym is ∙ eqb-true _ _ e) (T_in h)),
       λ e. one-late 32 a.others a.before (search rules) (search rules) (ap (λ (n : ℕ). eqb n 0) (sym is) ∙ e),
     )

@@ -1,0 +1,12 @@
+-- `whole::begin` meets its contract: the row table has another length than 32, or the call on 32 rows answers. Assumes nothing.
+use Rattle.std.proofs.Common.{rules, arith, ◌∙◌, sym}
+use Rattle.rules.specs.Public.{begin_on}
+use Rattle.rules.specs.Machine.{Begin}
+use Rattle.whole.proofs.Lends.{counted, room, refused, stored}
+use Rattle.whole.proofs.begin.Goals as goal
+
+pub returns-then-not-is_full : goal.returns-then-not-is_full
+returns-then-not-is_full c = (omega arith, omega arith, refused (sym c.is_full.ensures ∙ c.if-not-is_full.true) Begin)
+
+pub returns : goal.returns
+returns c = (omega arith, room (sym c.is_full.ensures ∙ c.if-not-is_full.false), stored (begin_on 32 256) (sym c.is_full.ensures ∙ c.if-not-is_full.false) _ (search (rules, counted)) c.begin-ran.ensures)
