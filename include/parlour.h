@@ -1,7 +1,7 @@
 /* The run of a step file, for a C host. README.md says what a step file and an answer are.
  *
- * Link with librunner.a, which `rt lib` in crates/runner_c makes as out/librunner_c.a (x86-64 Linux). The library keeps nothing between calls and allocates
- * nothing. Of the C library it calls memcpy and memset alone. The step files of tests/steps took 13 KB of stack at most (measured, no proved bound).
+ * Link with librunner.a (x86-64 Linux): a copy of out/librunner_c.a, which `rt lib` in crates/runner_c makes. The library keeps nothing between calls and
+ * allocates nothing. Of the C library it calls memcpy and memset alone. The step files of tests/steps took 13 KB of stack at most (measured, no proved bound).
  */
 #ifndef PARLOUR_H
 #define PARLOUR_H
