@@ -20,7 +20,7 @@ module _ {A : Type 0} (d : A) where
   pub in_place : {x : A} (xs : List A) → x ∈ xs → (i : ℕ) × (i < length xs) × (get_or xs i d ≡ x)
   in_place (y ∷ xs) (Memᴰ.head e) = (0, omega arith, sym e)
   in_place (y ∷ xs) (Memᴰ.tail m) = let u = in_place xs m in (suc u.0, omega (arith, u.1), u.2)
-  in_place [] x'' = elim x'' [ ]
+  in_place [] m = elim m [ ]
 
   pub pairs_place : (f : A → A → Bool) (xs : List A) → pairs f xs ≡ true → (i j : ℕ) → i < j → j < length xs → f (get_or xs i d) (get_or xs j d) ≡ true
   pairs_place f [] h i j l k = absurd (omega arith)

@@ -25,7 +25,7 @@ row_found (q ∷ rs) {r} h (Memᴰ.head e) = rw (e, eq-eqb (num q) (num q) refl,
 row_found (q ∷ rs) {r} h (Memᴰ.tail m) =
     let less : num q < num r = ltb-true _ _ (all_out (λ b. ltb (num q) (num b)) m (and_left _ _ h)) in
     rw (ne_eqb (num q) (num r) (λ e. omega arith), row_of) (row_found rs (and_right (all (λ b. ltb (num q) (num b)) rs) _ h) m)
-row_found [] {r = r} h x'' = elim x'' [ ]
+row_found [] h m = elim m [ ]
 
 -- the rows of a state are known by their numbers, which are positive, and once committed by their commits
 pub record Known (s : State) : Type 0 where
@@ -75,7 +75,7 @@ pairs_out f (x ∷ xs) {a} {b} o h (Memᴰ.head p) (Memᴰ.tail m) l = subst (λ
 pairs_out f (x ∷ xs) {a} {b} o h (Memᴰ.tail k) (Memᴰ.head q) l =
     absurd (omega (arith, ltb-true (num x) (num a) (all_out (λ b. ltb (num x) (num b)) k (and_left _ _ o)), ap num q))
 pairs_out f (x ∷ xs) o h (Memᴰ.tail k) (Memᴰ.tail m) l = pairs_out f xs (and_right (all (λ b. ltb (num x) (num b)) xs) _ o) (and_right (all (f x) xs) _ h) k m l
-pairs_out f [] {a = a} {b = b} o h x5 _ l = elim x5 [ ]
+pairs_out f [] o h k m l = elim k [ ]
 
 -- a commit leaves numbers and starts as they are
 pub num-stamp : (t m : ℕ) (r : Row) → num (stamp t m r) ≡ num r
@@ -115,7 +115,7 @@ one_more m t (q ∷ rs) {r} l o (Memᴰ.tail k) n a =
         ≡ suc (length {A = Row} (elim b [ true ↦ q ∷ keep committed rs | false ↦ keep committed rs ]))
     go true i = ap suc i
     go false i = i
-one_more m t [] {r = r} l o x5 n a = elim x5 [ ]
+one_more m t [] l o k n a = elim k [ ]
 
 -- each row is active or committed
 pub parted : (rs : List Row) → length (keep active rs) + length (keep committed rs) ≡ length rs

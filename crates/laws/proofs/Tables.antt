@@ -44,7 +44,7 @@ length-table f n = length-map (upfrom 0 n) f ∙ length-upfrom 0 n
 pub mem-upfrom : {i : ℕ} (k n : ℕ) → i ∈ upfrom k n → i < k + n
 mem-upfrom k (suc n) (Memᴰ.head e) = omega arith
 mem-upfrom k (suc n) (Memᴰ.tail m) = omega (arith, mem-upfrom (suc k) n m)
-mem-upfrom {i = i} k zero x' = elim x' [ ]
+mem-upfrom k zero m = elim m [ ]
 
 pub get_or-mem : (l : List ℕ) (i : ℕ) → i < length l → get_or l i 0 ∈ l
 get_or-mem [] i h = absurd (omega arith)

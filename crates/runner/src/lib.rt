@@ -118,7 +118,7 @@ fn advance(
 fn play(file: &[u8], out: &mut [u8]) -> u64
     requires { (length file.now ≤ 8192) × (5 * length (answers_to 32 256 (steps_of file.now)) ≤ length out.old) }
     ensures out_after { (result, out.new) ≡ written 32 256 (steps_of file.now) out.old }
-    ensures file_value { all narrow (answers_to 32 256 (steps_of file.now)) ≡ true }
+    ensures room_in_bytes { all narrow (answers_to 32 256 (steps_of file.now)) ≡ true }
 {
     let mut head = [0u32; 3];
     let mut values = [0u32; 256];
@@ -155,7 +155,7 @@ fn play(file: &[u8], out: &mut [u8]) -> u64
 // Runs a step file into an answer buffer. Where answers are written, each value has room in its bytes, so that they can be read back.
 pub fn run(file: &[u8], out: &mut [u8]) -> u64
     ensures out_after { (result, out.new) ≡ run_on 32 256 file.now out.old }
-    ensures file_value { result < 65536 * 11 → all narrow (answers_to 32 256 (steps_of file.now)) ≡ true }
+    ensures room_in_bytes { result < 65536 * 11 → all narrow (answers_to 32 256 (steps_of file.now)) ≡ true }
 {
     if 8192 < file.len() {
         return 65536 * 11;
@@ -169,7 +169,7 @@ pub fn run(file: &[u8], out: &mut [u8]) -> u64
 // The same under the name that it has for C, where the crate runner_c exports it.
 pub fn parlour_run(steps: &[u8], answers: &mut [u8]) -> u64
     ensures answers_after { (result, answers.new) ≡ run_on 32 256 steps.now answers.old }
-    ensures steps_value { result < 65536 * 11 → all narrow (answers_to 32 256 (steps_of steps.now)) ≡ true }
+    ensures room_in_bytes { result < 65536 * 11 → all narrow (answers_to 32 256 (steps_of steps.now)) ≡ true }
 {
     run(steps, answers)
 }

@@ -10,7 +10,7 @@ ghost use Rattle.runner.specs.Run.{answers_to, narrow, run_on};
 #[unsafe(no_mangle)]
 pub extern "C" fn parlour_run(steps: &[u8], answers: &mut [u8]) -> u64
     ensures answers_after { (result, answers.new) ≡ run_on 32 256 steps.now answers.old }
-    ensures steps_value { result < 65536 * 11 → all narrow (answers_to 32 256 (steps_of steps.now)) ≡ true }
+    ensures room_in_bytes { result < 65536 * 11 → all narrow (answers_to 32 256 (steps_of steps.now)) ≡ true }
 {
     runner::parlour_run(steps, answers)
 }

@@ -24,7 +24,7 @@ use Rattle.sound.proofs.Search.{ascend_at}
 pub index_of : {A : Type 0} (d : A) {x : A} (xs : List A) → x ∈ xs → (i : ℕ) × (i < length xs) × (get_or xs i d ≡ x)
 index_of d (y ∷ xs) (Memᴰ.head e) = (0, omega arith, sym e)
 index_of d (y ∷ xs) (Memᴰ.tail m) = let u = index_of d xs m in (suc u.0, omega (arith, u.1), u.2)
-index_of {A = A} d [] x'' = elim x'' [ ]
+index_of d [] m = elim m [ ]
 
 pub stands_at : {A : Type 0} (d : A) (xs : List A) (i : ℕ) → i < length xs → get_or xs i d ∈ xs
 stands_at d [] i l = absurd (omega arith)

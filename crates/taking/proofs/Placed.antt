@@ -21,10 +21,10 @@ use Rattle.edges.specs.Blocks.{at}
 use Rattle.edges.proofs.Rowed.{rises}
 use Rattle.taking.specs.Leaving.{place_of}
 
-pub get_d_map : {A B : Type 0} (f : A → B) (xs : List A) (i : ℕ) (d : A) → get_or (map f xs) i (f d) ≡ f (get_or xs i d)
-get_d_map f [] i d = refl
-get_d_map f (x ∷ xs) zero d = refl
-get_d_map f (x ∷ xs) (suc i) d = get_d_map f xs i d
+pub get_or-map : {A B : Type 0} (f : A → B) (xs : List A) (i : ℕ) (d : A) → get_or (map f xs) i (f d) ≡ f (get_or xs i d)
+get_or-map f [] i d = refl
+get_or-map f (x ∷ xs) zero d = refl
+get_or-map f (x ∷ xs) (suc i) d = get_or-map f xs i d
 
 -- the first that passes
 pub first_at : {A : Type 0} (p : A → Bool) (d : A) (xs : List A) (i : ℕ) → i < length xs → ((k : ℕ) → k < i → p (get_or xs k d) ≡ false) → p (get_or xs i d) ≡ true → first_index p xs ≡ i
@@ -36,10 +36,10 @@ first_at p d (x ∷ xs) (suc i) l f t =
 
 module _ (n : ℕ) (s : State) (v : Facts s) (room : length s.rows ≤ n) where
   num-at : (i : ℕ) → get_or (map num (padded n zero_row s.rows)) i 0 ≡ num (at s.rows i)
-  num-at i = get_d_map num (padded n zero_row s.rows) i zero_row ∙ ap num (get_or-padded n i zero_row s.rows)
+  num-at i = get_or-map num (padded n zero_row s.rows) i zero_row ∙ ap num (get_or-padded n i zero_row s.rows)
 
   pub done_at : (i : ℕ) → get_or (map done (padded n zero_row s.rows)) i 0 ≡ done (at s.rows i)
-  done_at i = get_d_map done (padded n zero_row s.rows) i zero_row ∙ ap done (get_or-padded n i zero_row s.rows)
+  done_at i = get_or-map done (padded n zero_row s.rows) i zero_row ∙ ap done (get_or-padded n i zero_row s.rows)
 
   -- a row's number stands at the row's place
   pub place_is : (i : ℕ) → i < length s.rows → place_of (map num (padded n zero_row s.rows)) (num (at s.rows i)) ≡ i

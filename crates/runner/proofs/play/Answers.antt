@@ -15,8 +15,8 @@ put_answer-requires c = (bad_room c.loop-at.invariant c.loop-at-test.true (next-
 pub returns-in_default-clause-out_after : goal.returns-in_default-clause-out_after
 returns-in_default-clause-out_after c = (go_bad c.loop-at.invariant c.loop-at-test.true (next-decoded _ _ c.step_at-found.ensures c.in_default.is) (omega (arith, c.loop-at.invariant.at_most, c.requires.0)) _ c.put_answer.ensures).0
 
-pub returns-in_default-clause-file_value : goal.returns-in_default-clause-file_value
-returns-in_default-clause-file_value c = (go_bad c.loop-at.invariant c.loop-at-test.true (next-decoded _ _ c.step_at-found.ensures c.in_default.is) (omega (arith, c.loop-at.invariant.at_most, c.requires.0)) _ c.put_answer.ensures).1
+pub returns-in_default-clause-room_in_bytes : goal.returns-in_default-clause-room_in_bytes
+returns-in_default-clause-room_in_bytes c = (go_bad c.loop-at.invariant c.loop-at-test.true (next-decoded _ _ c.step_at-found.ensures c.in_default.is) (omega (arith, c.loop-at.invariant.at_most, c.requires.0)) _ c.put_answer.ensures).1
 
 pub put_answer-requires-in-loop-at : goal.put_answer-requires-in-loop-at
 put_answer-requires-in-loop-at c = (good_room c.loop-at.invariant (next-decoded _ _ c.step_at-found.ensures c.in-Good.is) c.requires.1, number_small c.advance-ran.result.answer c.given.ensures)
@@ -30,5 +30,5 @@ loop-at-preserved c = go_next c.loop-at.invariant (next-decoded _ _ c.step_at-fo
 pub returns-clause-out_after : goal.returns-clause-out_after
 returns-clause-out_after c = (go_done c.loop-at.invariant c.loop-at-test.false).0
 
-pub returns-clause-file_value : goal.returns-clause-file_value
-returns-clause-file_value c = (go_done c.loop-at.invariant c.loop-at-test.false).1
+pub returns-clause-room_in_bytes : goal.returns-clause-room_in_bytes
+returns-clause-room_in_bytes c = (go_done c.loop-at.invariant c.loop-at-test.false).1
