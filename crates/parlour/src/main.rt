@@ -2,6 +2,7 @@
 #![tactic(auto)]
 
 ghost use Rattle.std.specs.Prelude.{◌++◌, ◌≡◌, ◌+◌, ◌*◌, ◌≤◌, length, take};
+ghost use Rattle.std.specs.Io.KnownBytes.{Consumes};
 ghost use Rattle.io.specs.Counts.{IsPrefixLen};
 ghost use Rattle.parlour.specs.Text.{decimal, line, lines_in, shown};
 
@@ -70,9 +71,11 @@ fn report(file: &[u8], text: &mut [u8]) -> usize
     put_lines(text, &answers, (r % 65536) as usize)
 }
 
-// Fills the buffer from the input, as far as that goes, and answers how many bytes it is. A failed read counts as the end of the input.
-fn read_full(input: &mut impl Read, buf: &mut [u8]) -> usize
-    ensures { result ≤ length buf.new }
+// Fills the buffer from the input, as far as that goes, and answers how many bytes it is: those that the input gave, in their order. A failed read counts
+// as the end of the input.
+fn read_full<R: Read>(input: &mut R, buf: &mut [u8]) -> usize
+    ensures in_bounds { result ≤ length buf.new }
+    ensures given { Consumes (R.remaining input.old) (R.remaining input.new) (take result buf.new) }
 {
     let mut done = 0;
     while done < buf.len() {
