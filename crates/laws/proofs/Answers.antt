@@ -7,9 +7,8 @@ use mathlib.Core.Path.{◌≡◌, ap, refl, sym}
 use lib.Dec.{eqb, leb}
 use lib.ListN.{length}
 use borrow.Author.Tests.{eq-eqb, eqb-true, le-leb, leb-true, not-true}
-use Rattle.terms.specs.declared.Answer.{Answer}
-use Rattle.terms.specs.declared.Answer.TheVariants.{Accepted}
-use Rattle.terms.specs.Words.{num, active}
+use Rattle.std.specs.Prelude.{Ok}
+use Rattle.terms.specs.Words.{Answer, num, active}
 use Rattle.rules.specs.State.{State, committing, is_active}
 use Rattle.rules.specs.Machine.{Abort, Begin, Call, Commit, Latest, Machine, Open, Read, Write, lowest, no_rec, no_row, openable, outcome, step, tests, value}
 use Rattle.rules.specs.Answers.{Active, Gives, Table, line, otherwise, table}
@@ -76,7 +75,7 @@ active_decides s t = (
 
 -- ---- the table
 module _ (m : Machine) (s : State) where
-  matched : (x : Call) → Matches (Accepted (value m s x)) (tests m s x) (table m s x)
+  matched : (x : Call) → Matches (Ok (value m s x)) (tests m s x) (table m s x)
   unfolding tests value openable no_row no_rec
   matched (Open c vs) =
       also (negated _ (then _ _ (both _ _ (at_least 1 c) (at_least c 256)) (equal (length vs) c))) done

@@ -5,10 +5,10 @@ use mathlib.Core.Bool.{Bool, cond, false, false≢true, not, true}
 use mathlib.Core.List.{List, [], ◌∷◌}
 use mathlib.Core.Path.{◌∙◌, ◌≡◌, ap, refl, sym}
 use lib.Dec.{leb}
+use Rattle.std.specs.Prelude.{Err, Ok}
+use Rattle.terms.specs.declared.Refusal.TheVariants.{NotActive, UnsoundTables}
 use Rattle.terms.specs.declared.TxnNo.{TxnNo}
-use Rattle.terms.specs.declared.Answer.{Answer}
-use Rattle.terms.specs.declared.Answer.TheVariants.{Accepted, NotActive, UnsoundTables}
-use Rattle.terms.specs.Words.{accepted, paper}
+use Rattle.terms.specs.Words.{Answer, accepted, paper}
 use Rattle.rules.specs.State.{State, is_active}
 use Rattle.rules.specs.Machine.{Abort, Begin, Call, Commit, Latest, Machine, Open, Read, Write, after, lowest, outcome, refused, step, tests, value}
 use Rattle.rules.specs.Raw.{Raw, sound_raw}
@@ -49,18 +49,18 @@ module _ (m : Machine) (s : State) where
       ∙ ap (λ (b : Bool). cond b (after m s (Abort t)) s) h
 
   -- an abort of an active transaction is accepted and leaves that
-  pub aborted : (t : TxnNo) → m.unsound s ≡ false → is_active s t.0 ≡ true → step m s (Abort t) ≡ (Accepted 0, after m s (Abort t))
+  pub aborted : (t : TxnNo) → m.unsound s ≡ false → is_active s t.0 ≡ true → step m s (Abort t) ≡ (Ok 0, after m s (Abort t))
   unfolding step outcome tests lowest value refused
-  aborted t u a = λ j. outcome m s (Abort t) (elim (u j) [ true ↦ UnsoundTables | false ↦ lowest (Accepted 0) ((NotActive, not (a j)) ∷ []) ])
+  aborted t u a = λ j. outcome m s (Abort t) (elim (u j) [ true ↦ (Err UnsoundTables) | false ↦ lowest (Ok 0) ((Err NotActive, not (a j)) ∷ []) ])
 
-  first : (x : Call) (ts : List (Answer × Bool)) → m.unsound s ≡ true → tests m s x ≡ (UnsoundTables, m.unsound s) ∷ ts → step m s x ≡ (UnsoundTables, s)
+  first : (x : Call) (ts : List (Answer × Bool)) → m.unsound s ≡ true → tests m s x ≡ (Err UnsoundTables, m.unsound s) ∷ ts → step m s x ≡ (Err UnsoundTables, s)
   unfolding step outcome lowest
   first x ts u e =
-      ap (λ (l : List (Answer × Bool)). outcome m s x (lowest (Accepted (value m s x)) l)) (e ∙ ap (λ (b : Bool). (UnsoundTables, b) ∷ ts) u)
-      ∙ ap (λ (z : State). (UnsoundTables, z)) (refused-same UnsoundTables x refl)
+      ap (λ (l : List (Answer × Bool)). outcome m s x (lowest (Ok (value m s x)) l)) (e ∙ ap (λ (b : Bool). (Err UnsoundTables, b) ∷ ts) u)
+      ∙ ap (λ (z : State). (Err UnsoundTables, z)) (refused-same (Err UnsoundTables) x refl)
 
   -- "tables unsound": 1, and nothing changed
-  pub unsound_first : (x : Call) → opens x ≡ false → m.unsound s ≡ true → step m s x ≡ (UnsoundTables, s)
+  pub unsound_first : (x : Call) → opens x ≡ false → m.unsound s ≡ true → step m s x ≡ (Err UnsoundTables, s)
   unfolding step tests opens
   unsound_first (Open c vs) o u = absurd (false≢true (sym o))
   unsound_first Begin o u = first Begin _ u refl
@@ -70,12 +70,12 @@ module _ (m : Machine) (s : State) where
   unsound_first (Abort t) o u = first (Abort t) _ u refl
   unsound_first (Latest i) o u = first (Latest i) _ u refl
 
-pub on-unsound : (n m : ℕ) (w : Raw) (x : Call) → sound_raw n m w ≡ false → on_sound n m x w ≡ (UnsoundTables, w)
+pub on-unsound : (n m : ℕ) (w : Raw) (x : Call) → sound_raw n m w ≡ false → on_sound n m x w ≡ (Err UnsoundTables, w)
 unfolding on_sound
 on-unsound n m w x u = rw (u, on_sound) refl
 
 -- the same of lent tables
-pub unsound-raw : (n m : ℕ) (w : Raw) (x : Call) → opens x ≡ false → sound_raw n m w ≡ false → call_on n m x w ≡ (UnsoundTables, w)
+pub unsound-raw : (n m : ℕ) (w : Raw) (x : Call) → opens x ≡ false → sound_raw n m w ≡ false → call_on n m x w ≡ (Err UnsoundTables, w)
 unfolding call_on opens
 unsound-raw n m w (Open c vs) o u = absurd (false≢true (sym o))
 unsound-raw n m w Begin o u = on-unsound n m w Begin u

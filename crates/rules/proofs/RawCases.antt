@@ -4,10 +4,10 @@ use mathlib.Core.Path.{◌≡◌, refl}
 use mathlib.Core.Bool.{true, false}
 use mathlib.Core.List.{List, [], ◌∷◌, ◌++◌, map}
 use lib.ListN.{replicate}
+use Rattle.std.specs.Prelude.{Err, Ok}
+use Rattle.terms.specs.declared.Refusal.TheVariants.{UnsoundTables, RowsFull, RecordsFull, BadOpening}
 use Rattle.terms.specs.declared.Row.{Row}
-use Rattle.terms.specs.declared.Answer.{Answer}
-use Rattle.terms.specs.declared.Answer.TheVariants.{Accepted, UnsoundTables, RowsFull, RecordsFull, BadOpening}
-use Rattle.terms.specs.Words.{row, rec}
+use Rattle.terms.specs.Words.{Answer, row, rec}
 use Rattle.rules.specs.Machine.{Call, Open}
 use Rattle.rules.specs.Raw.{Raw, pack, unpack, state_of, raw_of, sound_raw}
 use Rattle.rules.specs.Public.{call_on}
@@ -82,7 +82,7 @@ unsound =
 
 -- none of them is sound: every call but an opening answers 1 and leaves them
 abbrev Refuse : Call → Type 0
-Refuse x = map (call_on 2 2 x) unsound ≡ map (λ w. (UnsoundTables, w)) unsound
+Refuse x = map (call_on 2 2 x) unsound ≡ map (λ w. (Err UnsoundTables, w)) unsound
 
 pub unsound-tables : (map (sound_raw 2 2) unsound ≡ map (λ w. false) unsound)
     × Refuse begin × Refuse (read 1 0) × Refuse (write 1 0 3) × Refuse (commit 1) × Refuse (abort 1) × Refuse (latest 0)
@@ -96,37 +96,37 @@ Does cs = map (λ c. call_on 2 2 c.0 c.1) cs ≡ map (λ c. (c.2, c.3)) cs
 -- each of the seven on sound tables; an opening on tables of the right lengths that hold anything, and on one of a wrong length
 pub calls :
     Does (
-    (begin, good, Accepted 2, raw (2 ∷ 3 ∷ 3 ∷ []) values no_writers (row 1 1 0 ∷ row 2 2 0 ∷ []) recs)
-    ∷ (begin, raw (2 ∷ 3 ∷ 3 ∷ []) values no_writers (row 1 1 0 ∷ row 2 2 0 ∷ []) recs, RowsFull, raw (2 ∷ 3 ∷ 3 ∷ []) values no_writers (row 1 1 0 ∷ row 2 2 0 ∷ []) recs)
-    ∷ (read 1 0, good, Accepted 5, raw head values no_writers rows (0x0001_0001_0000_0000 ∷ 0x0001_0102_0000_0007 ∷ []))
-    ∷ (read 1 1, good, Accepted 7, good)
-    ∷ (write 1 1 9, good, Accepted 0, raw head values no_writers rows (0x0001_0102_0000_0009 ∷ 0 ∷ []))
+    (begin, good, Ok 2, raw (2 ∷ 3 ∷ 3 ∷ []) values no_writers (row 1 1 0 ∷ row 2 2 0 ∷ []) recs)
+    ∷ (begin, raw (2 ∷ 3 ∷ 3 ∷ []) values no_writers (row 1 1 0 ∷ row 2 2 0 ∷ []) recs, (Err RowsFull), raw (2 ∷ 3 ∷ 3 ∷ []) values no_writers (row 1 1 0 ∷ row 2 2 0 ∷ []) recs)
+    ∷ (read 1 0, good, Ok 5, raw head values no_writers rows (0x0001_0001_0000_0000 ∷ 0x0001_0102_0000_0007 ∷ []))
+    ∷ (read 1 1, good, Ok 7, good)
+    ∷ (write 1 1 9, good, Ok 0, raw head values no_writers rows (0x0001_0102_0000_0009 ∷ 0 ∷ []))
     ∷ (
       write 1 0 9,
       raw head values no_writers rows (0x0001_0001_0000_0000 ∷ 0x0001_0102_0000_0007 ∷ []),
-      RecordsFull,
+      (Err RecordsFull),
       raw head values no_writers rows (0x0001_0001_0000_0000 ∷ 0x0001_0102_0000_0007 ∷ []),
     )
-    ∷ (commit 1, good, Accepted 2, raw (2 ∷ 2 ∷ 3 ∷ []) (5 ∷ 7 ∷ replicate 254 0) (0 ∷ 1 ∷ replicate 254 0) (free ∷ free ∷ []) (0 ∷ 0 ∷ []))
-    ∷ (abort 1, good, Accepted 0, raw head values no_writers (free ∷ free ∷ []) (0 ∷ 0 ∷ []))
-    ∷ (latest 1, good, Accepted 6, good)
-    ∷ (Open 1 (4 ∷ []), good, Accepted 0, raw (1 ∷ 1 ∷ 1 ∷ []) (4 ∷ replicate 255 0) no_writers (free ∷ free ∷ []) (0 ∷ 0 ∷ []))
+    ∷ (commit 1, good, Ok 2, raw (2 ∷ 2 ∷ 3 ∷ []) (5 ∷ 7 ∷ replicate 254 0) (0 ∷ 1 ∷ replicate 254 0) (free ∷ free ∷ []) (0 ∷ 0 ∷ []))
+    ∷ (abort 1, good, Ok 0, raw head values no_writers (free ∷ free ∷ []) (0 ∷ 0 ∷ []))
+    ∷ (latest 1, good, Ok 6, good)
+    ∷ (Open 1 (4 ∷ []), good, Ok 0, raw (1 ∷ 1 ∷ 1 ∷ []) (4 ∷ replicate 255 0) no_writers (free ∷ free ∷ []) (0 ∷ 0 ∷ []))
     ∷ (
       Open 1 (4 ∷ []),
       raw (9 ∷ 8 ∷ 7 ∷ []) (replicate 256 3) (replicate 256 4) (row 6 6 6 ∷ row 5 5 5 ∷ []) (2 ∷ 1 ∷ []),
-      Accepted 0,
+      Ok 0,
       raw (1 ∷ 1 ∷ 1 ∷ []) (4 ∷ replicate 255 0) no_writers (free ∷ free ∷ []) (0 ∷ 0 ∷ []),
     )
-    ∷ (Open 1 (4 ∷ 4 ∷ []), good, BadOpening, good)
-    ∷ (opens 0, good, BadOpening, good)
-    ∷ (opens 257, good, BadOpening, good)
+    ∷ (Open 1 (4 ∷ 4 ∷ []), good, (Err BadOpening), good)
+    ∷ (opens 0, good, (Err BadOpening), good)
+    ∷ (opens 257, good, (Err BadOpening), good)
     ∷ []
     )
 unfolding book
 calls = refl
 
 -- where a table has a wrong length, an opening is refused and leaves all of them
-pub bad_lengths : map (call_on 2 2 (opens 1)) misfits ≡ map (λ w. (BadOpening, w)) misfits
+pub bad_lengths : map (call_on 2 2 (opens 1)) misfits ≡ map (λ w. (Err BadOpening, w)) misfits
 unfolding book
 bad_lengths = refl
 

@@ -5,12 +5,12 @@ use mathlib.Core.Path.{◌≡◌, refl}
 use mathlib.Core.Bool.{true}
 use mathlib.Core.List.{List, [], ◌∷◌, map}
 use lib.Dec.{ltb}
+use Rattle.std.specs.Prelude.{Err, Ok}
+use Rattle.terms.specs.declared.Refusal.TheVariants.{UnsoundTables, UnknownItem, NotActive, NumbersUsedUp, RowsFull, RecordsFull, Beaten, ClosesRing}
 use Rattle.terms.specs.declared.Row.{Row}
 use Rattle.terms.specs.declared.Rec.{Rec}
-use Rattle.terms.specs.declared.Answer.{Answer}
-use Rattle.terms.specs.declared.Answer.TheVariants.{Accepted, UnsoundTables, UnknownItem, NotActive, NumbersUsedUp, RowsFull, RecordsFull, Beaten, ClosesRing}
 use Rattle.rules.specs.Lists.{keep, pairs}
-use Rattle.terms.specs.Words.{row, rec, paper}
+use Rattle.terms.specs.Words.{Answer, row, rec, paper}
 use Rattle.rules.specs.State.{State}
 use Rattle.rules.specs.Machine.{Call, Open, Begin, Read, Write, Commit, Abort, Latest, Machine, tables, tests, step}
 use Rattle.rules.specs.Book.{book}
@@ -47,11 +47,11 @@ full n m = two n m (row 1 1 0 ∷ row 2 2 0 ∷ []) (rec 1 0 1 0 ∷ rec 1 1 1 0
 -- 4 alone, 5 alone, 4 before 5, and 1 before each: the next moment is out of range
 pub begins :
     Refuses 2 2 (
-    (begin, two 65536 65536 [] [], NumbersUsedUp ∷ [], NumbersUsedUp, two 65536 65536 [] [])
-    ∷ (begin, full 3 3, RowsFull ∷ [], RowsFull, full 3 3)
-    ∷ (begin, full 65536 65536, NumbersUsedUp ∷ RowsFull ∷ [], NumbersUsedUp, full 65536 65536)
-    ∷ (begin, two 65536 1 [] [], UnsoundTables ∷ NumbersUsedUp ∷ [], UnsoundTables, two 65536 1 [] [])
-    ∷ (begin, full 3 9, UnsoundTables ∷ RowsFull ∷ [], UnsoundTables, full 3 9)
+    (begin, two 65536 65536 [] [], (Err NumbersUsedUp) ∷ [], (Err NumbersUsedUp), two 65536 65536 [] [])
+    ∷ (begin, full 3 3, (Err RowsFull) ∷ [], (Err RowsFull), full 3 3)
+    ∷ (begin, full 65536 65536, (Err NumbersUsedUp) ∷ (Err RowsFull) ∷ [], (Err NumbersUsedUp), full 65536 65536)
+    ∷ (begin, two 65536 1 [] [], (Err UnsoundTables) ∷ (Err NumbersUsedUp) ∷ [], (Err UnsoundTables), two 65536 1 [] [])
+    ∷ (begin, full 3 9, (Err UnsoundTables) ∷ (Err RowsFull) ∷ [], (Err UnsoundTables), full 3 9)
     ∷ []
     )
 unfolding book
@@ -60,16 +60,16 @@ begins = (refl, refl)
 -- item 2 is unknown, number 3 was never given, and 2 has no record: 2, 3 and 6 alone and each two of them; and 1 before each
 pub reads :
     Refuses 2 2 (
-    (read 1 2, two 3 3 (row 1 1 0 ∷ []) [], UnknownItem ∷ [], UnknownItem, two 3 3 (row 1 1 0 ∷ []) [])
-    ∷ (read 3 1, two 3 3 (row 1 1 0 ∷ []) [], NotActive ∷ [], NotActive, two 3 3 (row 1 1 0 ∷ []) [])
-    ∷ (read 2 0, full 3 3, RecordsFull ∷ [], RecordsFull, full 3 3)
-    ∷ (read 3 2, two 3 3 (row 1 1 0 ∷ []) [], UnknownItem ∷ NotActive ∷ [], UnknownItem, two 3 3 (row 1 1 0 ∷ []) [])
-    ∷ (read 2 2, full 3 3, UnknownItem ∷ RecordsFull ∷ [], UnknownItem, full 3 3)
-    ∷ (read 3 0, full 3 3, NotActive ∷ RecordsFull ∷ [], NotActive, full 3 3)
-    ∷ (read 3 2, full 3 3, UnknownItem ∷ NotActive ∷ RecordsFull ∷ [], UnknownItem, full 3 3)
-    ∷ (read 1 2, two 3 9 (row 1 1 0 ∷ []) [], UnsoundTables ∷ UnknownItem ∷ [], UnsoundTables, two 3 9 (row 1 1 0 ∷ []) [])
-    ∷ (read 3 1, two 3 9 (row 1 1 0 ∷ []) [], UnsoundTables ∷ NotActive ∷ [], UnsoundTables, two 3 9 (row 1 1 0 ∷ []) [])
-    ∷ (read 2 0, full 3 9, UnsoundTables ∷ RecordsFull ∷ [], UnsoundTables, full 3 9)
+    (read 1 2, two 3 3 (row 1 1 0 ∷ []) [], (Err UnknownItem) ∷ [], (Err UnknownItem), two 3 3 (row 1 1 0 ∷ []) [])
+    ∷ (read 3 1, two 3 3 (row 1 1 0 ∷ []) [], (Err NotActive) ∷ [], (Err NotActive), two 3 3 (row 1 1 0 ∷ []) [])
+    ∷ (read 2 0, full 3 3, (Err RecordsFull) ∷ [], (Err RecordsFull), full 3 3)
+    ∷ (read 3 2, two 3 3 (row 1 1 0 ∷ []) [], (Err UnknownItem) ∷ (Err NotActive) ∷ [], (Err UnknownItem), two 3 3 (row 1 1 0 ∷ []) [])
+    ∷ (read 2 2, full 3 3, (Err UnknownItem) ∷ (Err RecordsFull) ∷ [], (Err UnknownItem), full 3 3)
+    ∷ (read 3 0, full 3 3, (Err NotActive) ∷ (Err RecordsFull) ∷ [], (Err NotActive), full 3 3)
+    ∷ (read 3 2, full 3 3, (Err UnknownItem) ∷ (Err NotActive) ∷ (Err RecordsFull) ∷ [], (Err UnknownItem), full 3 3)
+    ∷ (read 1 2, two 3 9 (row 1 1 0 ∷ []) [], (Err UnsoundTables) ∷ (Err UnknownItem) ∷ [], (Err UnsoundTables), two 3 9 (row 1 1 0 ∷ []) [])
+    ∷ (read 3 1, two 3 9 (row 1 1 0 ∷ []) [], (Err UnsoundTables) ∷ (Err NotActive) ∷ [], (Err UnsoundTables), two 3 9 (row 1 1 0 ∷ []) [])
+    ∷ (read 2 0, full 3 9, (Err UnsoundTables) ∷ (Err RecordsFull) ∷ [], (Err UnsoundTables), full 3 9)
     ∷ []
     )
 unfolding book
@@ -78,15 +78,15 @@ reads = (refl, refl)
 -- the same of writes; 1 has read the items and not written them, so that a write of it needs a record too
 pub writes :
     Refuses 2 2 (
-    (write 1 2 7, two 3 3 (row 1 1 0 ∷ []) [], UnknownItem ∷ [], UnknownItem, two 3 3 (row 1 1 0 ∷ []) [])
-    ∷ (write 3 1 7, two 3 3 (row 1 1 0 ∷ []) [], NotActive ∷ [], NotActive, two 3 3 (row 1 1 0 ∷ []) [])
-    ∷ (write 1 0 7, full 3 3, RecordsFull ∷ [], RecordsFull, full 3 3)
-    ∷ (write 3 2 7, two 3 3 (row 1 1 0 ∷ []) [], UnknownItem ∷ NotActive ∷ [], UnknownItem, two 3 3 (row 1 1 0 ∷ []) [])
-    ∷ (write 2 2 7, full 3 3, UnknownItem ∷ RecordsFull ∷ [], UnknownItem, full 3 3)
-    ∷ (write 3 0 7, full 3 3, NotActive ∷ RecordsFull ∷ [], NotActive, full 3 3)
-    ∷ (write 1 2 7, two 3 9 (row 1 1 0 ∷ []) [], UnsoundTables ∷ UnknownItem ∷ [], UnsoundTables, two 3 9 (row 1 1 0 ∷ []) [])
-    ∷ (write 3 1 7, two 3 9 (row 1 1 0 ∷ []) [], UnsoundTables ∷ NotActive ∷ [], UnsoundTables, two 3 9 (row 1 1 0 ∷ []) [])
-    ∷ (write 2 0 7, full 3 9, UnsoundTables ∷ RecordsFull ∷ [], UnsoundTables, full 3 9)
+    (write 1 2 7, two 3 3 (row 1 1 0 ∷ []) [], (Err UnknownItem) ∷ [], (Err UnknownItem), two 3 3 (row 1 1 0 ∷ []) [])
+    ∷ (write 3 1 7, two 3 3 (row 1 1 0 ∷ []) [], (Err NotActive) ∷ [], (Err NotActive), two 3 3 (row 1 1 0 ∷ []) [])
+    ∷ (write 1 0 7, full 3 3, (Err RecordsFull) ∷ [], (Err RecordsFull), full 3 3)
+    ∷ (write 3 2 7, two 3 3 (row 1 1 0 ∷ []) [], (Err UnknownItem) ∷ (Err NotActive) ∷ [], (Err UnknownItem), two 3 3 (row 1 1 0 ∷ []) [])
+    ∷ (write 2 2 7, full 3 3, (Err UnknownItem) ∷ (Err RecordsFull) ∷ [], (Err UnknownItem), full 3 3)
+    ∷ (write 3 0 7, full 3 3, (Err NotActive) ∷ (Err RecordsFull) ∷ [], (Err NotActive), full 3 3)
+    ∷ (write 1 2 7, two 3 9 (row 1 1 0 ∷ []) [], (Err UnsoundTables) ∷ (Err UnknownItem) ∷ [], (Err UnsoundTables), two 3 9 (row 1 1 0 ∷ []) [])
+    ∷ (write 3 1 7, two 3 9 (row 1 1 0 ∷ []) [], (Err UnsoundTables) ∷ (Err NotActive) ∷ [], (Err UnsoundTables), two 3 9 (row 1 1 0 ∷ []) [])
+    ∷ (write 2 0 7, full 3 9, (Err UnsoundTables) ∷ (Err RecordsFull) ∷ [], (Err UnsoundTables), full 3 9)
     ∷ []
     )
 unfolding book
@@ -116,15 +116,15 @@ ended = state 2 3 4 (8 ∷ 6 ∷ []) (2 ∷ 0 ∷ []) [] []
 -- 3, 7 and 8 alone and each two of them; and 1 before each
 pub commits :
     Refuses 3 4 (
-    (commit 3, raced 3 4, NotActive ∷ [], NotActive, raced 3 4)
-    ∷ (commit 1, raced 3 4, Beaten ∷ [], Beaten, ended)
-    ∷ (commit 1, skewed 3 4, ClosesRing ∷ [], ClosesRing, ended)
-    ∷ (commit 2, raced 3 4, NotActive ∷ Beaten ∷ [], NotActive, raced 3 4)
-    ∷ (commit 2, kept, NotActive ∷ Beaten ∷ ClosesRing ∷ [], NotActive, kept)
-    ∷ (commit 1, both 3 4, Beaten ∷ ClosesRing ∷ [], Beaten, ended)
-    ∷ (commit 3, raced 3 9, UnsoundTables ∷ NotActive ∷ [], UnsoundTables, raced 3 9)
-    ∷ (commit 1, raced 3 9, UnsoundTables ∷ Beaten ∷ [], UnsoundTables, raced 3 9)
-    ∷ (commit 1, skewed 3 9, UnsoundTables ∷ ClosesRing ∷ [], UnsoundTables, skewed 3 9)
+    (commit 3, raced 3 4, (Err NotActive) ∷ [], (Err NotActive), raced 3 4)
+    ∷ (commit 1, raced 3 4, (Err Beaten) ∷ [], (Err Beaten), ended)
+    ∷ (commit 1, skewed 3 4, (Err ClosesRing) ∷ [], (Err ClosesRing), ended)
+    ∷ (commit 2, raced 3 4, (Err NotActive) ∷ (Err Beaten) ∷ [], (Err NotActive), raced 3 4)
+    ∷ (commit 2, kept, (Err NotActive) ∷ (Err Beaten) ∷ (Err ClosesRing) ∷ [], (Err NotActive), kept)
+    ∷ (commit 1, both 3 4, (Err Beaten) ∷ (Err ClosesRing) ∷ [], (Err Beaten), ended)
+    ∷ (commit 3, raced 3 9, (Err UnsoundTables) ∷ (Err NotActive) ∷ [], (Err UnsoundTables), raced 3 9)
+    ∷ (commit 1, raced 3 9, (Err UnsoundTables) ∷ (Err Beaten) ∷ [], (Err UnsoundTables), raced 3 9)
+    ∷ (commit 1, skewed 3 9, (Err UnsoundTables) ∷ (Err ClosesRing) ∷ [], (Err UnsoundTables), skewed 3 9)
     ∷ []
     )
 unfolding book
@@ -133,11 +133,11 @@ commits = (refl, refl)
 -- what an abort of 1 leaves is what 7 and 8 left; 3, and 1 before 3
 pub aborts :
     Refuses 3 4 (
-    (abort 1, raced 3 4, [], Accepted 0, ended)
-    ∷ (abort 1, skewed 3 4, [], Accepted 0, ended)
-    ∷ (abort 1, both 3 4, [], Accepted 0, ended)
-    ∷ (abort 2, raced 3 4, NotActive ∷ [], NotActive, raced 3 4)
-    ∷ (abort 2, raced 3 9, UnsoundTables ∷ NotActive ∷ [], UnsoundTables, raced 3 9)
+    (abort 1, raced 3 4, [], Ok 0, ended)
+    ∷ (abort 1, skewed 3 4, [], Ok 0, ended)
+    ∷ (abort 1, both 3 4, [], Ok 0, ended)
+    ∷ (abort 2, raced 3 4, (Err NotActive) ∷ [], (Err NotActive), raced 3 4)
+    ∷ (abort 2, raced 3 9, (Err UnsoundTables) ∷ (Err NotActive) ∷ [], (Err UnsoundTables), raced 3 9)
     ∷ []
     )
 unfolding book
@@ -146,8 +146,8 @@ aborts = (refl, refl)
 -- 2, and 1 before 2
 pub latests :
     Refuses 3 4 (
-    (latest 2, raced 3 4, UnknownItem ∷ [], UnknownItem, raced 3 4)
-    ∷ (latest 2, raced 3 9, UnsoundTables ∷ UnknownItem ∷ [], UnsoundTables, raced 3 9)
+    (latest 2, raced 3 4, (Err UnknownItem) ∷ [], (Err UnknownItem), raced 3 4)
+    ∷ (latest 2, raced 3 9, (Err UnsoundTables) ∷ (Err UnknownItem) ∷ [], (Err UnsoundTables), raced 3 9)
     ∷ []
     )
 unfolding book
@@ -156,12 +156,12 @@ latests = (refl, refl)
 -- "number is not an active transaction's": 0, one never given, one that has ended, and one that is committed and kept
 pub no_actives :
     Refuses 3 4 (
-    (read 0 0, raced 4 5, NotActive ∷ [], NotActive, raced 4 5)
-    ∷ (read 9 0, raced 4 5, NotActive ∷ [], NotActive, raced 4 5)
-    ∷ (read 3 0, raced 4 5, NotActive ∷ [], NotActive, raced 4 5)
-    ∷ (read 2 0, raced 4 5, NotActive ∷ [], NotActive, raced 4 5)
-    ∷ (write 2 0 1, raced 4 5, NotActive ∷ [], NotActive, raced 4 5)
-    ∷ (abort 0, raced 4 5, NotActive ∷ [], NotActive, raced 4 5)
+    (read 0 0, raced 4 5, (Err NotActive) ∷ [], (Err NotActive), raced 4 5)
+    ∷ (read 9 0, raced 4 5, (Err NotActive) ∷ [], (Err NotActive), raced 4 5)
+    ∷ (read 3 0, raced 4 5, (Err NotActive) ∷ [], (Err NotActive), raced 4 5)
+    ∷ (read 2 0, raced 4 5, (Err NotActive) ∷ [], (Err NotActive), raced 4 5)
+    ∷ (write 2 0 1, raced 4 5, (Err NotActive) ∷ [], (Err NotActive), raced 4 5)
+    ∷ (abort 0, raced 4 5, (Err NotActive) ∷ [], (Err NotActive), raced 4 5)
     ∷ []
     )
 unfolding book

@@ -4,7 +4,7 @@ use mathlib.Core.Path.{◌≡◌, refl}
 use mathlib.Core.List.{List, [], ◌∷◌}
 use native.Mathlib.Omega.{arith}
 use lib.ListN.{get_or}
-use Rattle.terms.specs.declared.Answer.TheVariants.{Accepted}
+use Rattle.std.specs.Prelude.{Ok}
 use Rattle.rules.specs.State.{opened}
 use Rattle.rules.specs.Machine.{Call, Line, lines, history}
 use Rattle.rules.specs.Serial.{committers, in_turn, Store, Fits, newest_put}
@@ -43,8 +43,8 @@ p6_wrong f = let e : ◌≡◌ {A = ℕ} 20 0 = f.1.1.0 in omega arith
 -- two that each read what the other wrote: no order fits
 abbrev skew : List Line
 skew =
-    (begin, Accepted 1) ∷ (begin, Accepted 2) ∷ (read 1 0, Accepted 0) ∷ (read 2 1, Accepted 0) ∷ (write 1 1 40, Accepted 0) ∷ (write 2 0 50, Accepted 0)
-    ∷ (commit 1, Accepted 3) ∷ (commit 2, Accepted 4) ∷ []
+    (begin, Ok 1) ∷ (begin, Ok 2) ∷ (read 1 0, Ok 0) ∷ (read 2 1, Ok 0) ∷ (write 1 1 40, Ok 0) ∷ (write 2 0 50, Ok 0)
+    ∷ (commit 1, Ok 3) ∷ (commit 2, Ok 4) ∷ []
 
 skew_wrong : (Fits zeros (in_turn skew (1 ∷ 2 ∷ [])) → ⊥) × (Fits zeros (in_turn skew (2 ∷ 1 ∷ [])) → ⊥)
 unfolding book

@@ -1,10 +1,10 @@
 -- The table of answer numbers by propositions: when each answer is given, on any machine and state. Assumes nothing.
-use Rattle.std.specs.Prelude.{ℕ, ◌≤◌, ◌≡◌, true, false, ◌⊎◌, length}
+use Rattle.std.specs.Prelude.{ℕ, ◌≤◌, ◌≡◌, true, false, ◌⊎◌, length, Err, Ok}
 use mathlib.Core.List.{Memᴰ}
+use Rattle.terms.specs.declared.Refusal.{Refusal}
+use Rattle.terms.specs.declared.Refusal.TheVariants.{UnsoundTables, UnknownItem, NotActive, NumbersUsedUp, RowsFull, RecordsFull, BadOpening, ClosesRing}
 use Rattle.terms.specs.declared.Row.{Row}
-use Rattle.terms.specs.declared.Answer.{Answer}
-use Rattle.terms.specs.declared.Answer.TheVariants.{Accepted, UnsoundTables, UnknownItem, NotActive, NumbersUsedUp, RowsFull, RecordsFull, BadOpening, ClosesRing}
-use Rattle.terms.specs.Words.{num, done}
+use Rattle.terms.specs.Words.{Answer, num, done}
 use Rattle.rules.specs.State.{State, has_read, wrote, committing}
 use Rattle.rules.specs.Deps.{Beaten, Ring}
 use Rattle.rules.specs.Machine.{Call, Open, Begin, Read, Write, Commit, Abort, Latest, Machine, value}
@@ -39,17 +39,17 @@ module _ (m : Machine) (s : State) where
   Opens c l = (1 ≤ c) × (c ≤ 256) × (l ≡ c)
 
   abbrev pub table : Call → Table
-  table (Open c vs) = line BadOpening (¬ Opens c (length vs)) (otherwise (Accepted 0))
+  table (Open c vs) = line (Err BadOpening) (¬ Opens c (length vs)) (otherwise (Ok 0))
   table Begin =
-      line UnsoundTables Unsound (line NumbersUsedUp (s.next ≡ 65536) (line RowsFull (m.max_rows ≤ length (m.counted s).rows) (otherwise (Accepted s.next))))
+      line (Err UnsoundTables) Unsound (line (Err NumbersUsedUp) (s.next ≡ 65536) (line (Err RowsFull) (m.max_rows ≤ length (m.counted s).rows) (otherwise (Ok s.next))))
   table (Read t i) =
-      line UnsoundTables Unsound (line UnknownItem (s.count ≤ i.0) (line NotActive (¬ Active s t.0)
-      (line RecordsFull ((has_read s t.0 i.0 ≡ false) × (wrote s t.0 i.0 ≡ false) × NoRecord) (otherwise (Accepted (value m s (Read t i)))))))
+      line (Err UnsoundTables) Unsound (line (Err UnknownItem) (s.count ≤ i.0) (line (Err NotActive) (¬ Active s t.0)
+      (line (Err RecordsFull) ((has_read s t.0 i.0 ≡ false) × (wrote s t.0 i.0 ≡ false) × NoRecord) (otherwise (Ok (value m s (Read t i)))))))
   table (Write t i v) =
-      line UnsoundTables Unsound (line UnknownItem (s.count ≤ i.0) (line NotActive (¬ Active s t.0)
-      (line RecordsFull ((wrote s t.0 i.0 ≡ false) × NoRecord) (otherwise (Accepted 0)))))
+      line (Err UnsoundTables) Unsound (line (Err UnknownItem) (s.count ≤ i.0) (line (Err NotActive) (¬ Active s t.0)
+      (line (Err RecordsFull) ((wrote s t.0 i.0 ≡ false) × NoRecord) (otherwise (Ok 0)))))
   table (Commit t) =
-      line UnsoundTables Unsound (line NotActive (¬ Active s t.0) (line Answer.Beaten (Beaten s t.0)
-      (line ClosesRing (Ring (committing s t.0)) (otherwise (Accepted s.moment)))))
-  table (Abort t) = line UnsoundTables Unsound (line NotActive (¬ Active s t.0) (otherwise (Accepted 0)))
-  table (Latest i) = line UnsoundTables Unsound (line UnknownItem (s.count ≤ i.0) (otherwise (Accepted (value m s (Latest i)))))
+      line (Err UnsoundTables) Unsound (line (Err NotActive) (¬ Active s t.0) (line (Err Refusal.Beaten) (Beaten s t.0)
+      (line (Err ClosesRing) (Ring (committing s t.0)) (otherwise (Ok s.moment)))))
+  table (Abort t) = line (Err UnsoundTables) Unsound (line (Err NotActive) (¬ Active s t.0) (otherwise (Ok 0)))
+  table (Latest i) = line (Err UnsoundTables) Unsound (line (Err UnknownItem) (s.count ≤ i.0) (otherwise (Ok (value m s (Latest i)))))

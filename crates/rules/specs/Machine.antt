@@ -1,13 +1,12 @@
 -- The machines: when each answer is given, with what value, and the state after it. Assumes nothing.
-use Rattle.std.specs.Prelude.{ℕ, Bool, true, false, not, ◌&&◌, ◌||◌, cond, List, [], ◌∷◌, map, length, replicate, eqb, leb}
+use Rattle.std.specs.Prelude.{ℕ, Bool, true, false, not, ◌&&◌, ◌||◌, cond, List, [], ◌∷◌, map, length, replicate, eqb, leb, Err, Ok}
+use Rattle.terms.specs.declared.Refusal.TheVariants.{UnsoundTables, UnknownItem, NotActive, NumbersUsedUp, RowsFull, RecordsFull, Beaten, ClosesRing, BadOpening}
 use Rattle.terms.specs.declared.TxnNo.{TxnNo}
 use Rattle.terms.specs.declared.ItemNo.{ItemNo}
 use Rattle.terms.specs.declared.Step.{Step}
 use Rattle.terms.specs.declared.Given.{Given}
-use Rattle.terms.specs.declared.Answer.{Answer}
-use Rattle.terms.specs.declared.Answer.TheVariants.{Accepted, UnsoundTables, UnknownItem, NotActive, NumbersUsedUp, RowsFull, RecordsFull, Beaten, ClosesRing, BadOpening}
 use Rattle.rules.specs.Lists.{last_or}
-use Rattle.terms.specs.Words.{paper, accepted}
+use Rattle.terms.specs.Words.{Answer, paper, accepted}
 use Rattle.rules.specs.State.{State, opened, is_active, has_read, wrote, begun, committing, dropped}
 use Rattle.rules.specs.Versions.{read_value, after_read, after_write, latest}
 use Rattle.rules.specs.Deps.{beaten, ring}
@@ -65,18 +64,18 @@ module _ (m : Machine) (s : State) where
   -- the refusals of a read or a write of item i by t, which needs a new record or not
   abbrev pub access : TxnNo → ItemNo → Bool → List (Answer × Bool)
   access t i new =
-      (UnsoundTables, m.unsound s) ∷ (UnknownItem, leb s.count i.0) ∷ (NotActive, not (is_active s t.0)) ∷ (RecordsFull, new && no_rec) ∷ []
+      (Err UnsoundTables, m.unsound s) ∷ (Err UnknownItem, leb s.count i.0) ∷ (Err NotActive, not (is_active s t.0)) ∷ (Err RecordsFull, new && no_rec) ∷ []
 
   -- the refusals of a call, each with the test of its line in the table of answer numbers, by ascending number
   unfoldable pub tests : Call → List (Answer × Bool)
-  tests (Open c vs) = (BadOpening, not (openable c vs)) ∷ []
-  tests Begin = (UnsoundTables, m.unsound s) ∷ (NumbersUsedUp, eqb s.next 65536) ∷ (RowsFull, no_row) ∷ []
+  tests (Open c vs) = (Err BadOpening, not (openable c vs)) ∷ []
+  tests Begin = (Err UnsoundTables, m.unsound s) ∷ (Err NumbersUsedUp, eqb s.next 65536) ∷ (Err RowsFull, no_row) ∷ []
   tests (Read t i) = access t i (not (has_read s t.0 i.0 || wrote s t.0 i.0))
   tests (Write t i v) = access t i (not (wrote s t.0 i.0))
   tests (Commit t) =
-      (UnsoundTables, m.unsound s) ∷ (NotActive, not (is_active s t.0)) ∷ (Beaten, beaten s t.0) ∷ (ClosesRing, ring (committing s t.0)) ∷ []
-  tests (Abort t) = (UnsoundTables, m.unsound s) ∷ (NotActive, not (is_active s t.0)) ∷ []
-  tests (Latest i) = (UnsoundTables, m.unsound s) ∷ (UnknownItem, leb s.count i.0) ∷ []
+      (Err UnsoundTables, m.unsound s) ∷ (Err NotActive, not (is_active s t.0)) ∷ (Err Beaten, beaten s t.0) ∷ (Err ClosesRing, ring (committing s t.0)) ∷ []
+  tests (Abort t) = (Err UnsoundTables, m.unsound s) ∷ (Err NotActive, not (is_active s t.0)) ∷ []
+  tests (Latest i) = (Err UnsoundTables, m.unsound s) ∷ (Err UnknownItem, leb s.count i.0) ∷ []
 
   -- "Accepted values: begin the number, read and latest the value, commit the moment, others 0."
   unfoldable pub value : Call → ℕ
@@ -119,7 +118,7 @@ outcome m s x a = (a, elim (accepted a) [ true ↦ after m s x | false ↦ refus
 
 -- "Several at once: the lowest number"
 unfoldable pub step : Machine → State → Call → Answer × State
-step m s x = outcome m s x (lowest (Accepted (value m s x)) (tests m s x))
+step m s x = outcome m s x (lowest (Ok (value m s x)) (tests m s x))
 
 -- a call with its answer, and the lines of some calls, one after the other
 abbrev pub Line : Type 0

@@ -1,9 +1,9 @@
 -- What each public call does to lent tables: its answer, and all tables afterwards, whatever the tables hold. Assumes nothing.
-use Rattle.std.specs.Prelude.{ℕ, ◌^◌, Bool, true, false, ◌&&◌, List, [], ◌∷◌, length, eqb, ltb}
+use Rattle.std.specs.Prelude.{ℕ, ◌^◌, Bool, true, false, ◌&&◌, List, [], ◌∷◌, length, eqb, ltb, Err, Ok}
+use Rattle.terms.specs.Words.{Answer}
+use Rattle.terms.specs.declared.Refusal.TheVariants.{UnsoundTables, BadOpening}
 use Rattle.terms.specs.declared.TxnNo.{TxnNo}
 use Rattle.terms.specs.declared.ItemNo.{ItemNo}
-use Rattle.terms.specs.declared.Answer.{Answer}
-use Rattle.terms.specs.declared.Answer.TheVariants.{Accepted, UnsoundTables, BadOpening}
 use Rattle.rules.specs.State.{State, opened}
 use Rattle.rules.specs.Machine.{Call, Open, Begin, Read, Write, Commit, Abort, Latest, tables, step, openable, Line}
 use Rattle.rules.specs.Raw.{Raw, state_of, raw_of, sound_raw}
@@ -21,11 +21,11 @@ module _ (n m : ℕ) where
 
   -- a call that asks for sound tables: 1 and nothing changed where they are not, else what the table machine does
   unfoldable pub on_sound : Call → Raw → Answer × Raw
-  on_sound x w = elim (sound_raw n m w) [ true ↦ lent (step (tables n m) (state_of w) x) | false ↦ (UnsoundTables, w) ]
+  on_sound x w = elim (sound_raw n m w) [ true ↦ lent (step (tables n m) (state_of w) x) | false ↦ (Err UnsoundTables, w) ]
 
   -- "Open replaces everything in the tables. Open doesn't test what stood there." 9: "or a table of wrong length"
   unfoldable pub open_on : ℕ → List ℕ → Raw → Answer × Raw
-  open_on c vs w = elim (openable c vs && fitting n m w) [ true ↦ (Accepted 0, raw_of n m (opened vs)) | false ↦ (BadOpening, w) ]
+  open_on c vs w = elim (openable c vs && fitting n m w) [ true ↦ (Ok 0, raw_of n m (opened vs)) | false ↦ (Err BadOpening, w) ]
 
   abbrev pub begin_on : Raw → Answer × Raw
   begin_on w = on_sound Begin w

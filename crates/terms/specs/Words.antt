@@ -1,11 +1,11 @@
 -- The words: what a row, a record and a version say, and the number and value that document 01 gives to an answer. Assumes nothing.
-use Rattle.std.specs.Prelude.{ℕ, ◌+◌, ◌*◌, Bool, not, ◌&&◌, ◌||◌, cond, eqb, ltb}
+use Rattle.std.specs.Prelude.{ℕ, ◌+◌, ◌*◌, Bool, not, ◌&&◌, ◌||◌, cond, eqb, ltb, Result, Ok, Err}
 use Rattle.terms.specs.declared.Row.{Row}
 use Rattle.terms.specs.declared.Rec.{Rec}
 use Rattle.terms.specs.declared.Version.{Version}
 use Rattle.terms.specs.declared.Given.{Given}
-use Rattle.terms.specs.declared.Answer.{Answer}
-use Rattle.terms.specs.declared.Answer.TheVariants.{Accepted, UnsoundTables, UnknownItem, NotActive, NumbersUsedUp, RowsFull, RecordsFull, Beaten, ClosesRing, BadOpening}
+use Rattle.terms.specs.declared.Refusal.{Refusal}
+use Rattle.terms.specs.declared.Refusal.TheVariants.{UnsoundTables, UnknownItem, NotActive, NumbersUsedUp, RowsFull, RecordsFull, Beaten, ClosesRing, BadOpening}
 
 -- "A row: number, start moment, commit moment (0 while active)."
 abbrev pub num : Row → ℕ
@@ -69,21 +69,28 @@ writer v = v.writer.0
 abbrev pub version : ℕ → ℕ → Version
 version w v = record { writer = record { 0 = w }; value = v }
 
+-- what a call answers: accepted with its value, or refused
+abbrev pub Answer : Type 0
+Answer = Result ℕ Refusal
+
 -- the table of section "Answer numbers"; "Refused value: 0"
 abbrev pub given : ℕ → ℕ → Given
 given n v = record { number = n; value = v }
 
+abbrev pub number_of : Refusal → ℕ
+number_of UnsoundTables = 1
+number_of UnknownItem = 2
+number_of NotActive = 3
+number_of NumbersUsedUp = 4
+number_of RowsFull = 5
+number_of RecordsFull = 6
+number_of Beaten = 7
+number_of ClosesRing = 8
+number_of BadOpening = 9
+
 abbrev pub paper : Answer → Given
-paper (Accepted v) = given 0 v
-paper UnsoundTables = given 1 0
-paper UnknownItem = given 2 0
-paper NotActive = given 3 0
-paper NumbersUsedUp = given 4 0
-paper RowsFull = given 5 0
-paper RecordsFull = given 6 0
-paper Beaten = given 7 0
-paper ClosesRing = given 8 0
-paper BadOpening = given 9 0
+paper (Ok v) = given 0 v
+paper (Err r) = given (number_of r) 0
 
 abbrev pub accepted : Answer → Bool
 accepted a = eqb (paper a).number 0

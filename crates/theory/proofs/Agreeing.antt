@@ -8,6 +8,9 @@ use native.Mathlib.Omega.{arith}
 use lib.Dec.{leb}
 use lib.ListN.{length}
 use borrow.Author.Tests.{leb-true}
+use Rattle.std.specs.Prelude.{Err, Ok}
+use Rattle.terms.specs.Words.{Answer}
+use Rattle.terms.specs.declared.Refusal.TheVariants.{BadOpening, UnsoundTables}
 use Rattle.laws.proofs.Lists.{and_both, and_left, and_right, passed}
 use Rattle.rules.specs.Book.{book}
 use Rattle.rules.specs.Lists.{all}
@@ -16,8 +19,6 @@ use Rattle.rules.specs.Serial.{opens}
 use Rattle.rules.specs.Sound.{lawful, lean, sized, sound}
 use Rattle.rules.specs.Spent.{prune}
 use Rattle.rules.specs.State.{State, closed, opened}
-use Rattle.terms.specs.declared.Answer.{Answer}
-use Rattle.terms.specs.declared.Answer.TheVariants.{Accepted, BadOpening, UnsoundTables}
 use Rattle.theory.proofs.Facts.{lawful_facts, lawful-free}
 use Rattle.theory.proofs.LawfulCalls.{lasting, openable_out, opened-lawful}
 use Rattle.theory.proofs.PrunedCalls.{same_call}
@@ -131,14 +132,14 @@ module _ (n m : ℕ) where
   by-opening c vs xs true e r =
       let u = openable_out c vs e in
       let g = from_opening n m vs u.0 u.1 xs in
-      onward (Open c vs) xs (Accepted 0) (opened vs) (opens_by (tables n m) closed c vs true e) (opens_by (history n m) closed c vs true e) (open_pruned vs) (g.answers, g.stand)
+      onward (Open c vs) xs (Ok 0) (opened vs) (opens_by (tables n m) closed c vs true e) (opens_by (history n m) closed c vs true e) (open_pruned vs) (g.answers, g.stand)
   by-opening c vs xs false e r =
-      onward (Open c vs) xs BadOpening closed (opens_by (tables n m) closed c vs false e) (opens_by (history n m) closed c vs false e) closed_pruned r
+      onward (Open c vs) xs (Err BadOpening) closed (opens_by (tables n m) closed c vs false e) (opens_by (history n m) closed c vs false e) closed_pruned r
 
   by_refusal : (x : Call) (xs : List Call) → opens x ≡ false → Both closed xs → Both closed (x ∷ xs)
   unfolding tables history closed
   by_refusal x xs o r =
-      onward x xs UnsoundTables closed (unsound_first (tables n m) closed x o (ap not (closed-unsound n m))) (unsound_first (history n m) closed x o refl) closed_pruned r
+      onward x xs (Err UnsoundTables) closed (unsound_first (tables n m) closed x o (ap not (closed-unsound n m))) (unsound_first (history n m) closed x o refl) closed_pruned r
 
   pub from_closed : (xs : List Call) → Both closed xs
   unfolding lines states opens

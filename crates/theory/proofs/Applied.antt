@@ -6,7 +6,8 @@ use mathlib.Core.Bool.{true, false}
 use mathlib.Core.List.{List, [], ◌∷◌, ◌++◌}
 use native.Mathlib.Omega.{arith}
 use lib.ListN.{length, replicate}
-use Rattle.terms.specs.declared.Answer.TheVariants.{Accepted, UnsoundTables, NotActive, BadOpening}
+use Rattle.std.specs.Prelude.{Err, Ok}
+use Rattle.terms.specs.declared.Refusal.TheVariants.{UnsoundTables, NotActive, BadOpening}
 use Rattle.terms.specs.Words.{row, rec}
 use Rattle.rules.specs.Lists.{mem}
 use Rattle.rules.specs.State.{State, closed, opened}
@@ -36,14 +37,14 @@ calls = early ++ Open 2 (3 ∷ 4 ∷ []) ∷ late
 
 abbrev before : List Line
 before =
-    (begin, UnsoundTables) ∷ (Open 1 (8 ∷ []), Accepted 0) ∷ (begin, Accepted 1) ∷ (write 1 0 5, Accepted 0) ∷ (commit 1, Accepted 2) ∷ (begin, Accepted 2)
-    ∷ (read 2 0, Accepted 5) ∷ []
+    (begin, (Err UnsoundTables)) ∷ (Open 1 (8 ∷ []), Ok 0) ∷ (begin, Ok 1) ∷ (write 1 0 5, Ok 0) ∷ (commit 1, Ok 2) ∷ (begin, Ok 2)
+    ∷ (read 2 0, Ok 5) ∷ []
 
 abbrev since : List Line
 since =
-    (read 2 0, NotActive) ∷ (begin, Accepted 1) ∷ (begin, Accepted 2) ∷ (read 1 0, Accepted 3) ∷ (read 1 1, Accepted 4) ∷ (read 2 1, Accepted 4) ∷ (write 2 1 20, Accepted 0)
-    ∷ (Open 257 [], BadOpening) ∷ (commit 2, Accepted 3) ∷ (write 1 0 9, Accepted 0) ∷ (begin, Accepted 3) ∷ (write 3 0 7, Accepted 0) ∷ (read 3 0, Accepted 7)
-    ∷ (abort 3, Accepted 0) ∷ (commit 1, Accepted 5) ∷ (commit 3, NotActive) ∷ []
+    (read 2 0, (Err NotActive)) ∷ (begin, Ok 1) ∷ (begin, Ok 2) ∷ (read 1 0, Ok 3) ∷ (read 1 1, Ok 4) ∷ (read 2 1, Ok 4) ∷ (write 2 1 20, Ok 0)
+    ∷ (Open 257 [], (Err BadOpening)) ∷ (commit 2, Ok 3) ∷ (write 1 0 9, Ok 0) ∷ (begin, Ok 3) ∷ (write 3 0 7, Ok 0) ∷ (read 3 0, Ok 7)
+    ∷ (abort 3, Ok 0) ∷ (commit 1, Ok 5) ∷ (commit 3, (Err NotActive)) ∷ []
 
 -- ---- demand 2
 pub closed_same : SameFrom 32 256 closed calls

@@ -5,11 +5,11 @@ use mathlib.Core.List.{List}
 use mathlib.Core.Path.{◌∙◌, ap, sym}
 use native.Mathlib.Omega.{arith}
 use borrow.Author.Tests.{ne_eqb}
+use Rattle.terms.specs.Words.{Answer}
 use Rattle.laws.proofs.Lists.{all_out}
 use Rattle.laws.proofs.Spending.{with_none-active}
 use Rattle.rules.specs.Machine.{Call, final, history, tables}
 use Rattle.rules.specs.State.{State, opened}
-use Rattle.terms.specs.declared.Answer.{Answer}
 use Rattle.theory.proofs.Agreeing.{Agree, from_closed, from_opening, from_sound, lawful-run, prune_twice, sound-lawful, still_sound}
 use Rattle.theory.proofs.Facts.{lawful_facts, lawful-free}
 use Rattle.theory.proofs.LawfulCalls.{opened-lawful}

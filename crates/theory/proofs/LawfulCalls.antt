@@ -8,6 +8,8 @@ use native.Mathlib.Omega.{arith}
 use lib.Dec.{eqb, leb}
 use lib.ListN.{length, length-replicate}
 use borrow.Author.Tests.{eq-eqb, eqb-false, eqb-true, le-leb, leb-false, leb-true}
+use Rattle.std.specs.Prelude.{Err, Ok}
+use Rattle.terms.specs.declared.Refusal.TheVariants.{BadOpening, Beaten, ClosesRing, NotActive, NumbersUsedUp, RecordsFull, RowsFull, UnknownItem, UnsoundTables}
 use Rattle.laws.proofs.Lists.{and_both, and_left, and_right}
 use Rattle.laws.proofs.Rings.{ring-free}
 use Rattle.laws.proofs.Tables.{all_replicate}
@@ -17,9 +19,7 @@ use Rattle.rules.specs.Sound.{based, headed, lawful, numbered, ordered, owned, s
 use Rattle.rules.specs.Spent.{forget}
 use Rattle.rules.specs.State.{State, begun, commits, committing, dropped, has_read, insert, is_active, opened, with_recs, wrote}
 use Rattle.rules.specs.Versions.{after_read, after_write, visible}
-use Rattle.terms.specs.Words.{item, rec, txn, writer}
-use Rattle.terms.specs.declared.Answer.{Answer}
-use Rattle.terms.specs.declared.Answer.TheVariants.{Accepted, BadOpening, Beaten, ClosesRing, NotActive, NumbersUsedUp, RecordsFull, RowsFull, UnknownItem, UnsoundTables}
+use Rattle.terms.specs.Words.{Answer, item, rec, txn, writer}
 use Rattle.terms.specs.declared.ItemNo.{ItemNo}
 use Rattle.terms.specs.declared.Rec.{Rec}
 use Rattle.terms.specs.declared.TxnNo.{TxnNo}
@@ -57,14 +57,14 @@ module _ (n m : ℕ) (s : State) (h : lawful s ≡ true) where
   free = lawful-free s h
 
   abbrev Lasts : Call → List (Answer × Bool) → Type 0
-  Lasts x l = lawful (outcome (history n m) s x (lowest (Accepted (value (history n m) s x)) l)).1 ≡ true
+  Lasts x l = lawful (outcome (history n m) s x (lowest (Ok (value (history n m) s x)) l)).1 ≡ true
 
-  last_open : (c : ℕ) (vs : List ℕ) (b : Bool) → openable c vs ≡ b → Lasts (Open c vs) ((BadOpening, not b) ∷ [])
+  last_open : (c : ℕ) (vs : List ℕ) (b : Bool) → openable c vs ≡ b → Lasts (Open c vs) ((Err BadOpening, not b) ∷ [])
   unfolding lowest outcome value after refused
   last_open c vs false e = h
   last_open c vs true e = let u = openable_out c vs e in opened-lawful vs u.0 u.1
 
-  last-begin : (u a b : Bool) → eqb s.next 65536 ≡ a → Lasts Begin ((UnsoundTables, u) ∷ (NumbersUsedUp, a) ∷ (RowsFull, b) ∷ [])
+  last-begin : (u a b : Bool) → eqb s.next 65536 ≡ a → Lasts Begin ((Err UnsoundTables, u) ∷ (Err NumbersUsedUp, a) ∷ (Err RowsFull, b) ∷ [])
   unfolding lowest outcome value after refused
   last-begin true a b e = h
   last-begin false true b e = h
@@ -79,7 +79,7 @@ module _ (n m : ℕ) (s : State) (h : lawful s ≡ true) where
       lawful_from (with_recs s (insert x s.recs)) (facts_put s v t a x own below kind sees) (free-put s v t a x own below kind sees free)
 
   last-read : (t : TxnNo) (i : ItemNo) (u a b c : Bool) → leb s.count i.0 ≡ a → is_active s t.0 ≡ b
-      → Lasts (Read t i) ((UnsoundTables, u) ∷ (UnknownItem, a) ∷ (NotActive, not b) ∷ (RecordsFull, c) ∷ [])
+      → Lasts (Read t i) ((Err UnsoundTables, u) ∷ (Err UnknownItem, a) ∷ (Err NotActive, not b) ∷ (Err RecordsFull, c) ∷ [])
   unfolding lowest outcome value after refused after_read
   last-read t i true a b c p q = h
   last-read t i false true b c p q = h
@@ -92,7 +92,7 @@ module _ (n m : ℕ) (s : State) (h : lawful s ≡ true) where
       go false = last-put t.0 q (rec t.0 i.0 1 (writer (visible s t.0 i.0))) refl (leb-false s.count i.0 p) (inl refl) (λ e. refl)
 
   last-write : (t : TxnNo) (i : ItemNo) (w : ℕ) (u a b c : Bool) → leb s.count i.0 ≡ a → is_active s t.0 ≡ b
-      → Lasts (Write t i w) ((UnsoundTables, u) ∷ (UnknownItem, a) ∷ (NotActive, not b) ∷ (RecordsFull, c) ∷ [])
+      → Lasts (Write t i w) ((Err UnsoundTables, u) ∷ (Err UnknownItem, a) ∷ (Err NotActive, not b) ∷ (Err RecordsFull, c) ∷ [])
   unfolding lowest outcome value after refused after_write
   last-write t i w true a b c p q = h
   last-write t i w false true b c p q = h
@@ -106,7 +106,7 @@ module _ (n m : ℕ) (s : State) (h : lawful s ≡ true) where
       ap lawful (dropped-is s t v.sizes (its_row s v t a)) ∙ lawful_from (forget (λ k. eqb k t) s) (facts_dropped s v t a) (free-dropped s v t a free)
 
   last-commit : (t : TxnNo) (u b c d : Bool) → is_active s t.0 ≡ b → beaten s t.0 ≡ c → ring (committing s t.0) ≡ d
-      → Lasts (Commit t) ((UnsoundTables, u) ∷ (NotActive, not b) ∷ (Beaten, c) ∷ (ClosesRing, d) ∷ [])
+      → Lasts (Commit t) ((Err UnsoundTables, u) ∷ (Err NotActive, not b) ∷ (Err Beaten, c) ∷ (Err ClosesRing, d) ∷ [])
   unfolding lowest outcome value after refused history
   last-commit t true b c d p q r = h
   last-commit t false false c d p q r = h
@@ -115,13 +115,13 @@ module _ (n m : ℕ) (s : State) (h : lawful s ≡ true) where
   last-commit t false true false false p q r =
       lawful_from (committing s t.0) (facts_commit s v t.0 (active_out s t.0 p) q) ((ring-free (committing s t.0)).0 r)
 
-  last-abort : (t : TxnNo) (u b : Bool) → is_active s t.0 ≡ b → Lasts (Abort t) ((UnsoundTables, u) ∷ (NotActive, not b) ∷ [])
+  last-abort : (t : TxnNo) (u b : Bool) → is_active s t.0 ≡ b → Lasts (Abort t) ((Err UnsoundTables, u) ∷ (Err NotActive, not b) ∷ [])
   unfolding lowest outcome value after refused history
   last-abort t true b p = h
   last-abort t false false p = h
   last-abort t false true p = last-drop t.0 (active_out s t.0 p)
 
-  last-latest : (i : ItemNo) (u b : Bool) → Lasts (Latest i) ((UnsoundTables, u) ∷ (UnknownItem, b) ∷ [])
+  last-latest : (i : ItemNo) (u b : Bool) → Lasts (Latest i) ((Err UnsoundTables, u) ∷ (Err UnknownItem, b) ∷ [])
   unfolding lowest outcome value after refused
   last-latest i true b = h
   last-latest i false true = h

@@ -6,9 +6,10 @@ use mathlib.Core.List.{List, [], ◌∷◌, map}
 use mathlib.Core.Logic.{◌⊎◌, inl, inr}
 use mathlib.Core.Path.{◌∙◌, ◌≡◌, ap, refl, subst, sym}
 use native.Mathlib.Omega.{arith}
+use Rattle.std.specs.Prelude.{Err, Ok}
+use Rattle.terms.specs.Words.{Answer}
+use Rattle.terms.specs.declared.Refusal.TheVariants.{BadOpening}
 use Rattle.terms.specs.declared.Rec.{Rec}
-use Rattle.terms.specs.declared.Answer.{Answer}
-use Rattle.terms.specs.declared.Answer.TheVariants.{Accepted, BadOpening}
 use Rattle.rules.specs.Machine.{Call, history, openable, states}
 use Rattle.rules.specs.Public.{fitting, open_on}
 use Rattle.rules.specs.Raw.{Raw, raw_of, state_of, unpack, used_recs}
@@ -35,16 +36,16 @@ both : (n m : ℕ) (w : Raw) (s : State) (xs : List Call) → Follow n m w s xs 
 both n m w s xs f a = (f.answers ∙ a.answers, f.stand ∙ ap (map (raw_of n m)) a.stand ∙ mapped (raw_of n m) prune (states (history n m) s xs), f.safe)
 
 -- what an accepted opening leaves
-left : (n m : ℕ) (w : Raw) (c : ℕ) (vs : List ℕ) → (open_on n m c vs w).0 ≡ Accepted 0 → (openable c vs ≡ true) × ((open_on n m c vs w).1 ≡ raw_of n m (opened vs))
+left : (n m : ℕ) (w : Raw) (c : ℕ) (vs : List ℕ) → (open_on n m c vs w).0 ≡ Ok 0 → (openable c vs ≡ true) × ((open_on n m c vs w).1 ≡ raw_of n m (opened vs))
 unfolding open_on
 left n m w c vs e = go (passed (openable c vs && fitting n m w))
   where
     outcome : Bool → Answer × Raw
-    outcome b = elim b [ true ↦ (Accepted 0, raw_of n m (opened vs)) | false ↦ (BadOpening, w) ]
+    outcome b = elim b [ true ↦ (Ok 0, raw_of n m (opened vs)) | false ↦ (Err BadOpening, w) ]
 
     go : ((openable c vs && fitting n m w) ≡ true) ⊎ ((openable c vs && fitting n m w) ≡ false) → (openable c vs ≡ true) × ((outcome (openable c vs && fitting n m w)).1 ≡ raw_of n m (opened vs))
     go (inl t) = (and_left _ _ t, ap (λ (b : Bool). (outcome b).1) t)
-    go (inr f) = let q : BadOpening ≡ Accepted 0 = sym (ap (λ (b : Bool). (outcome b).0) f) ∙ e in let z : ◌≡◌ {A = ℕ} 0 1 = cc in absurd (omega arith)
+    go (inr f) = let q : Err BadOpening ≡ Ok 0 = sym (ap (λ (b : Bool). (outcome b).0) f) ∙ e in let z : ◌≡◌ {A = ℕ} 0 1 = cc in absurd (omega arith)
 
 pub lent-opened : LentOpened
 unfolding opened

@@ -1,4 +1,6 @@
 -- What the answers of a machine mean, in a state that passes the tests and that it does not refuse. Assumes nothing.
+use Rattle.std.specs.Prelude.{Err, Ok}
+use Rattle.terms.specs.declared.Refusal.TheVariants.{Beaten, ClosesRing, NotActive, UnsoundTables}
 use Rattle.rules.specs.Deps
 use Prim.Native.Nat.{ℕ}
 use mathlib.Core.Bool.{Bool, cond, false, false≢true, not, true}
@@ -16,9 +18,7 @@ use Rattle.rules.specs.Lists.{all}
 use Rattle.rules.specs.Machine.{Commit, Latest, Machine, Read, lowest, outcome, step, tests, value}
 use Rattle.rules.specs.State.{State, committing, is_active, written, wrote}
 use Rattle.rules.specs.Versions.{Visible, latest, read_value, version_at, visible}
-use Rattle.terms.specs.Words.{accepted}
-use Rattle.terms.specs.declared.Answer.{Answer}
-use Rattle.terms.specs.declared.Answer.TheVariants.{Accepted, Beaten, ClosesRing, NotActive, UnsoundTables}
+use Rattle.terms.specs.Words.{Answer, accepted}
 use Rattle.terms.specs.declared.TxnNo.{TxnNo}
 use Rattle.terms.specs.declared.Version.{Version}
 use Rattle.theory.proofs.Consequences.{known}
@@ -27,12 +27,12 @@ use Rattle.theory.specs.Demand2.{CommitsSo, LatestSo, Means, ReadsSo}
 
 module _ (c : Machine) (s : State) (v : Facts s) (sane : c.unsound s ≡ false) where
   -- an accepted value is the value of the call
-  accepts : (a : ℕ) (l : List (Answer × Bool)) → all (λ p. not (accepted p.0)) l ≡ true → (w : ℕ) → lowest (Accepted a) l ≡ Accepted w → a ≡ w
+  accepts : (a : ℕ) (l : List (Answer × Bool)) → all (λ p. not (accepted p.0)) l ≡ true → (w : ℕ) → lowest (Ok a) l ≡ Ok w → a ≡ w
   unfolding lowest
   accepts a [] h w e = cc
   accepts a (p ∷ l) h w e = go p.1 e (accepts a l (and_right (not (accepted p.0)) _ h) w)
     where
-      go : (b : Bool) → elim b [ true ↦ p.0 | false ↦ lowest (Accepted a) l ] ≡ Accepted w → (lowest (Accepted a) l ≡ Accepted w → a ≡ w) → a ≡ w
+      go : (b : Bool) → ◌≡◌ {A = Answer} (elim b [ true ↦ p.0 | false ↦ lowest (Ok a) l ]) (Ok w) → (lowest (Ok a) l ≡ Ok w → a ≡ w) → a ≡ w
       go true q r = absurd (false≢true (sym (not-true _ (and_left _ _ h)) ∙ ap accepted q))
       go false q r = r q
 
@@ -54,10 +54,10 @@ module _ (c : Machine) (s : State) (v : Facts s) (sane : c.unsound s ≡ false) 
 
   -- a commit, by its tests
   commits-by : (t : TxnNo) → is_active s t.0 ≡ true
-      → (step c s (Commit t)).0 ≡ lowest (Accepted s.moment) ((Beaten, beaten s t.0) ∷ (ClosesRing, ring (committing s t.0)) ∷ [])
+      → (step c s (Commit t)).0 ≡ lowest (Ok s.moment) ((Err Beaten, beaten s t.0) ∷ (Err ClosesRing, ring (committing s t.0)) ∷ [])
   unfolding step outcome tests value lowest
   commits-by t on =
-      λ j. lowest (Accepted s.moment) ((UnsoundTables, sane j) ∷ (NotActive, not (on j)) ∷ (Beaten, beaten s t.0) ∷ (ClosesRing, ring (committing s t.0)) ∷ [])
+      λ j. lowest (Ok s.moment) ((Err UnsoundTables, sane j) ∷ (Err NotActive, not (on j)) ∷ (Err Beaten, beaten s t.0) ∷ (Err ClosesRing, ring (committing s t.0)) ∷ [])
 
   pub commits_so : CommitsSo c s
   unfolding lowest
@@ -71,7 +71,7 @@ module _ (c : Machine) (s : State) (v : Facts s) (sane : c.unsound s ≡ false) 
   )
     where
       by_tests : Bool → Bool → Answer
-      by_tests a b = lowest (Accepted s.moment) ((Beaten, a) ∷ (ClosesRing, b) ∷ [])
+      by_tests a b = lowest (Ok s.moment) ((Err Beaten, a) ∷ (Err ClosesRing, b) ∷ [])
 
       by-beaten : ¬ Deps.Beaten s t.0 → (step c s (Commit t)).0 ≡ by_tests false (ring (committing s t.0))
       by-beaten n = commits-by t on ∙ go (passed (beaten s t.0))
@@ -80,12 +80,12 @@ module _ (c : Machine) (s : State) (v : Facts s) (sane : c.unsound s ≡ false) 
           go (inl h) = absurd (n ((beaten_decides s t.0).0 h))
           go (inr f) = λ j. by_tests (f j) (ring (committing s t.0))
 
-      was_beaten : (a b : Bool) → by_tests a b ≡ Beaten → a ≡ true
+      was_beaten : (a b : Bool) → by_tests a b ≡ (Err Beaten) → a ≡ true
       was_beaten true b e = refl
       was_beaten false true e = let z : ◌≡◌ {A = ℕ} 0 1 = cc in absurd (omega arith)
       was_beaten false false e = let z : ◌≡◌ {A = ℕ} 0 1 = cc in absurd (omega arith)
 
-      closed-ring : (b : Bool) → by_tests false b ≡ ClosesRing → b ≡ true
+      closed-ring : (b : Bool) → by_tests false b ≡ (Err ClosesRing) → b ≡ true
       closed-ring true e = refl
       closed-ring false e = let z : ◌≡◌ {A = ℕ} 0 1 = cc in absurd (omega arith)
 

@@ -7,6 +7,8 @@ use native.Mathlib.Omega.{arith}
 use lib.Dec.{eqb, leb}
 use lib.ListN.{length, length-append, length-map}
 use borrow.Author.Tests.{leb-false, ne_eqb}
+use Rattle.std.specs.Prelude.{Err, Ok}
+use Rattle.terms.specs.declared.Refusal.TheVariants.{BadOpening, Beaten, ClosesRing, NotActive, NumbersUsedUp, RecordsFull, RowsFull, UnknownItem, UnsoundTables}
 use Rattle.laws.proofs.Lists.{pairs-keep}
 use Rattle.lists.proofs.Keeps.{length-keep}
 use Rattle.laws.proofs.Records.{is_below, Sorted, insert_more, insert-same}
@@ -16,9 +18,7 @@ use Rattle.rules.specs.Machine.{Abort, Begin, Call, Commit, Latest, Open, Read, 
 use Rattle.rules.specs.Spent.{forget, prune}
 use Rattle.rules.specs.State.{State, begun, committing, dropped, has_read, insert, is_active, with_recs, wrote}
 use Rattle.rules.specs.Versions.{after_read, after_write, visible}
-use Rattle.terms.specs.Words.{accepted, num, rec, row, stamp, txn, writer}
-use Rattle.terms.specs.declared.Answer.{Answer}
-use Rattle.terms.specs.declared.Answer.TheVariants.{Accepted, BadOpening, Beaten, ClosesRing, NotActive, NumbersUsedUp, RecordsFull, RowsFull, UnknownItem, UnsoundTables}
+use Rattle.terms.specs.Words.{Answer, accepted, num, rec, row, stamp, txn, writer}
 use Rattle.terms.specs.declared.ItemNo.{ItemNo}
 use Rattle.terms.specs.declared.Rec.{Rec}
 use Rattle.terms.specs.declared.TxnNo.{TxnNo}
@@ -36,17 +36,17 @@ call_open : (n m : ℕ) (s : State) (c : ℕ) (vs : List ℕ) → Room n m s →
 unfolding tests
 call_open n m s c vs f = good_call n m s (Open c vs) (go (openable c vs))
   where
-    go : (a : Bool) → Good n m s (Open c vs) ((BadOpening, not a) ∷ []) ((BadOpening, not a) ∷ [])
+    go : (a : Bool) → Good n m s (Open c vs) ((Err BadOpening, not a) ∷ []) ((Err BadOpening, not a) ∷ [])
     go false = unfold lowest outcome value after refused in (refl, f)
-    go true = unfold lowest outcome value after refused in (λ j. (Accepted 0, sym (open_pruned vs) j), opened-fits n m vs)
+    go true = unfold lowest outcome value after refused in (λ j. (Ok 0, sym (open_pruned vs) j), opened-fits n m vs)
 
 module _ (n m : ℕ) (s : State) (v : Facts s) (free : ¬ Ring s) (f : Room n m s) where
   -- neither machine refuses its state
-  sane : (x : Call) (l r : List (Answer × Bool)) → Good n m s x l r → Good n m s x ((UnsoundTables, (tables n m).unsound (prune s)) ∷ l) ((UnsoundTables, (history n m).unsound s) ∷ r)
+  sane : (x : Call) (l r : List (Answer × Bool)) → Good n m s x l r → Good n m s x ((Err UnsoundTables, (tables n m).unsound (prune s)) ∷ l) ((Err UnsoundTables, (history n m).unsound s) ∷ r)
   unfolding lowest tables history
   sane x l r g =
-      subst (λ (b : Bool). Good n m s x ((UnsoundTables, b) ∷ l) ((UnsoundTables, eqb s.count 0) ∷ r)) (sym (ap not (sound-kept s v free n m f.rows f.recs)))
-      (subst (λ (b : Bool). Good n m s x l ((UnsoundTables, b) ∷ r)) (sym (ne_eqb s.count 0 (λ (e : s.count ≡ 0). omega (arith, v.counts.0)))) g)
+      subst (λ (b : Bool). Good n m s x ((Err UnsoundTables, b) ∷ l) ((Err UnsoundTables, eqb s.count 0) ∷ r)) (sym (ap not (sound-kept s v free n m f.rows f.recs)))
+      (subst (λ (b : Bool). Good n m s x l ((Err UnsoundTables, b) ∷ r)) (sym (ne_eqb s.count 0 (λ (e : s.count ≡ 0). omega (arith, v.counts.0)))) g)
 
   -- a refusal that leaves the state
   stay_good : (x : Call) (a : Answer) → accepted a ≡ false → refused (tables n m) (prune s) a x ≡ prune s → refused (history n m) s a x ≡ s → Good n m s x ((a, true) ∷ []) ((a, true) ∷ [])
@@ -57,12 +57,12 @@ module _ (n m : ℕ) (s : State) (v : Facts s) (free : ¬ Ring s) (f : Room n m 
       (λ j. (a, (k ∙ ap prune (sym h)) j), subst (Room n m) (sym h) f)
 
   -- a begin
-  begin_good : (a b : Bool) → leb n (length (prune s).rows) ≡ b → Good n m s Begin ((NumbersUsedUp, a) ∷ (RowsFull, b) ∷ []) ((NumbersUsedUp, a) ∷ (RowsFull, b) ∷ [])
+  begin_good : (a b : Bool) → leb n (length (prune s).rows) ≡ b → Good n m s Begin ((Err NumbersUsedUp, a) ∷ (Err RowsFull, b) ∷ []) ((Err NumbersUsedUp, a) ∷ (Err RowsFull, b) ∷ [])
   unfolding lowest outcome value after refused prune forget begun
   begin_good true b e = (refl, f)
   begin_good false true e = (refl, f)
   begin_good false false e = (
-    λ j. (Accepted s.next, begin_pruned s v j),
+    λ j. (Ok s.next, begin_pruned s v j),
     fits_by n m (begun s) (begun (prune s)) (sym (begin_pruned s v)) (omega (arith, length-append (prune s).rows (row s.next s.moment 0 ∷ []), leb-false n (length (prune s).rows) e)) f.recs,
   )
 
@@ -74,24 +74,24 @@ module _ (n m : ℕ) (s : State) (v : Facts s) (free : ¬ Ring s) (f : Room n m 
   module _ (x : Call) (t : TxnNo) (i : ItemNo) (new new' : Bool) (same : Active s t.0 → new ≡ new')
       (stays : (a : Answer) → accepted a ≡ false → Good n m s x ((a, true) ∷ []) ((a, true) ∷ []))
       (accepts : Active s t.0 → i.0 < s.count → new ≡ false → Good n m s x [] []) where
-    last_good : Active s t.0 → i.0 < s.count → (c : Bool) → new ≡ c → Good n m s x ((RecordsFull, c) ∷ []) ((RecordsFull, c) ∷ [])
-    last_good a l true e = stays RecordsFull refl
+    last_good : Active s t.0 → i.0 < s.count → (c : Bool) → new ≡ c → Good n m s x ((Err RecordsFull, c) ∷ []) ((Err RecordsFull, c) ∷ [])
+    last_good a l true e = stays (Err RecordsFull) refl
     last_good a l false e = unfold lowest in accepts a l e
 
     go : (a b : Bool) → leb s.count i.0 ≡ a → is_active s t.0 ≡ b
-        → Good n m s x ((UnknownItem, a) ∷ (NotActive, not b) ∷ (RecordsFull, new) ∷ []) ((UnknownItem, a) ∷ (NotActive, not b) ∷ (RecordsFull, new') ∷ [])
+        → Good n m s x ((Err UnknownItem, a) ∷ (Err NotActive, not b) ∷ (Err RecordsFull, new) ∷ []) ((Err UnknownItem, a) ∷ (Err NotActive, not b) ∷ (Err RecordsFull, new') ∷ [])
     unfolding lowest
-    go true b p q = stays UnknownItem refl
-    go false false p q = stays NotActive refl
+    go true b p q = stays (Err UnknownItem) refl
+    go false false p q = stays (Err NotActive) refl
     go false true p q =
         let a = active_out s t.0 q in
-        subst (λ (k : Bool). Good n m s x ((RecordsFull, new) ∷ []) ((RecordsFull, k) ∷ [])) (same a) (last_good a (leb-false s.count i.0 p) new refl)
+        subst (λ (k : Bool). Good n m s x ((Err RecordsFull, new) ∷ []) ((Err RecordsFull, k) ∷ [])) (same a) (last_good a (leb-false s.count i.0 p) new refl)
 
-    access_good : Good n m s x ((UnknownItem, leb s.count i.0) ∷ (NotActive, not (is_active (prune s) t.0)) ∷ (RecordsFull, new) ∷ [])
-        ((UnknownItem, leb s.count i.0) ∷ (NotActive, not (is_active s t.0)) ∷ (RecordsFull, new') ∷ [])
+    access_good : Good n m s x ((Err UnknownItem, leb s.count i.0) ∷ (Err NotActive, not (is_active (prune s) t.0)) ∷ (Err RecordsFull, new) ∷ [])
+        ((Err UnknownItem, leb s.count i.0) ∷ (Err NotActive, not (is_active s t.0)) ∷ (Err RecordsFull, new') ∷ [])
     access_good =
-        subst (λ (b : Bool). Good n m s x ((UnknownItem, leb s.count i.0) ∷ (NotActive, not b) ∷ (RecordsFull, new) ∷ [])
-        ((UnknownItem, leb s.count i.0) ∷ (NotActive, not (is_active s t.0)) ∷ (RecordsFull, new') ∷ []))
+        subst (λ (b : Bool). Good n m s x ((Err UnknownItem, leb s.count i.0) ∷ (Err NotActive, not b) ∷ (Err RecordsFull, new) ∷ [])
+        ((Err UnknownItem, leb s.count i.0) ∷ (Err NotActive, not (is_active s t.0)) ∷ (Err RecordsFull, new') ∷ []))
         (sym (active_pruned s v t.0)) (go (leb s.count i.0) (is_active s t.0) refl refl)
 
   -- no record is free
@@ -124,7 +124,7 @@ module _ (n m : ℕ) (s : State) (v : Facts s) (free : ¬ Ring s) (f : Room n m 
         accepts : Active s t.0 → i.0 < s.count → (not (had (prune s)) && full) ≡ false → Good n m s (Read t i) [] []
         accepts a l d = unfold lowest outcome value after in
             let u = read_fits d in (
-              λ j. (Accepted (value_pruned s v t.0 a i.0 l j), read_pruned s v t.0 a i.0 l j),
+              λ j. (Ok (value_pruned s v t.0 a i.0 l j), read_pruned s v t.0 a i.0 l j),
               fits_by n m (after_read s t.0 i.0) (after_read (prune s) t.0 i.0) (sym (read_pruned s v t.0 a i.0 l)) (omega (arith, ap length u.1, f.rows)) u.0,
             )
 
@@ -150,7 +150,7 @@ module _ (n m : ℕ) (s : State) (v : Facts s) (free : ¬ Ring s) (f : Room n m 
       where
         accepts : Active s t.0 → i.0 < s.count → (not (wrote (prune s) t.0 i.0) && full) ≡ false → Good n m s (Write t i w) [] []
         accepts a l d = unfold lowest outcome value after after_write in (
-          λ j. (Accepted 0, write_pruned s v t.0 a i.0 w l j),
+          λ j. (Ok 0, write_pruned s v t.0 a i.0 w l j),
           fits_by n m (after_write s t.0 i.0 w) (after_write (prune s) t.0 i.0 w) (sym (write_pruned s v t.0 a i.0 w l)) f.rows (write-fits d),
         )
 
@@ -172,48 +172,48 @@ module _ (n m : ℕ) (s : State) (v : Facts s) (free : ¬ Ring s) (f : Room n m 
         (omega (arith, prune-rows z, length-map (prune s).rows (stamp t.0 (prune s).moment), f.rows)) (omega (arith, prune-recs z, f.recs))
 
     -- of an active one, whose further tests are l and r
-    active_good : (x : Call) (l r : List (Answer × Bool)) → Good n m s x ((NotActive, true) ∷ []) ((NotActive, true) ∷ []) → (Active s t.0 → Good n m s x l r)
-        → Good n m s x ((NotActive, not (is_active (prune s) t.0)) ∷ l) ((NotActive, not (is_active s t.0)) ∷ r)
+    active_good : (x : Call) (l r : List (Answer × Bool)) → Good n m s x ((Err NotActive, true) ∷ []) ((Err NotActive, true) ∷ []) → (Active s t.0 → Good n m s x l r)
+        → Good n m s x ((Err NotActive, not (is_active (prune s) t.0)) ∷ l) ((Err NotActive, not (is_active s t.0)) ∷ r)
     active_good x l r stays g =
-        subst (λ (b : Bool). Good n m s x ((NotActive, not b) ∷ l) ((NotActive, not (is_active s t.0)) ∷ r)) (sym (active_pruned s v t.0)) (go (is_active s t.0) refl)
+        subst (λ (b : Bool). Good n m s x ((Err NotActive, not b) ∷ l) ((Err NotActive, not (is_active s t.0)) ∷ r)) (sym (active_pruned s v t.0)) (go (is_active s t.0) refl)
       where
-        go : (b : Bool) → is_active s t.0 ≡ b → Good n m s x ((NotActive, not b) ∷ l) ((NotActive, not b) ∷ r)
+        go : (b : Bool) → is_active s t.0 ≡ b → Good n m s x ((Err NotActive, not b) ∷ l) ((Err NotActive, not b) ∷ r)
         go false q = unfold lowest in stays
         go true q = unfold lowest in g (active_out s t.0 q)
 
-    commit-last : Active s t.0 → (c d : Bool) → Good n m s (Commit t) ((Beaten, c) ∷ (ClosesRing, d) ∷ []) ((Beaten, c) ∷ (ClosesRing, d) ∷ [])
+    commit-last : Active s t.0 → (c d : Bool) → Good n m s (Commit t) ((Err Beaten, c) ∷ (Err ClosesRing, d) ∷ []) ((Err Beaten, c) ∷ (Err ClosesRing, d) ∷ [])
     unfolding lowest outcome value after refused tables history
-    commit-last a true d = (λ j. (Beaten, drop_pruned s v t.0 a j), drop-fits a)
-    commit-last a false true = (λ j. (ClosesRing, drop_pruned s v t.0 a j), drop-fits a)
-    commit-last a false false = (λ j. (Accepted (moment_pruned j), commit_pruned s v t.0 a j), commit-fits a)
+    commit-last a true d = (λ j. (Err Beaten, drop_pruned s v t.0 a j), drop-fits a)
+    commit-last a false true = (λ j. (Err ClosesRing, drop_pruned s v t.0 a j), drop-fits a)
+    commit-last a false false = (λ j. (Ok (moment_pruned j), commit_pruned s v t.0 a j), commit-fits a)
       where
         moment_pruned : (prune s).moment ≡ s.moment
         moment_pruned = unfold prune forget in refl
 
-    commit_good : Active s t.0 → Good n m s (Commit t) ((Beaten, beaten (prune s) t.0) ∷ (ClosesRing, ring (committing (prune s) t.0)) ∷ [])
-        ((Beaten, beaten s t.0) ∷ (ClosesRing, ring (committing s t.0)) ∷ [])
+    commit_good : Active s t.0 → Good n m s (Commit t) ((Err Beaten, beaten (prune s) t.0) ∷ (Err ClosesRing, ring (committing (prune s) t.0)) ∷ [])
+        ((Err Beaten, beaten s t.0) ∷ (Err ClosesRing, ring (committing s t.0)) ∷ [])
     commit_good a =
-        let e : ◌≡◌ {A = List (Answer × Bool)} ((Beaten, beaten (prune s) t.0) ∷ (ClosesRing, ring (committing (prune s) t.0)) ∷ []) ((Beaten, beaten s t.0) ∷ (ClosesRing, ring (committing s t.0)) ∷ [])
-        = λ j. (Beaten, beaten_pruned s v t.0 a j) ∷ (ClosesRing, ring_pruned s v t.0 a j) ∷ [] in
-        subst (λ (l : List (Answer × Bool)). Good n m s (Commit t) l ((Beaten, beaten s t.0) ∷ (ClosesRing, ring (committing s t.0)) ∷ [])) (sym e) (commit-last a (beaten s t.0) (ring (committing s t.0)))
+        let e : ◌≡◌ {A = List (Answer × Bool)} ((Err Beaten, beaten (prune s) t.0) ∷ (Err ClosesRing, ring (committing (prune s) t.0)) ∷ []) ((Err Beaten, beaten s t.0) ∷ (Err ClosesRing, ring (committing s t.0)) ∷ [])
+        = λ j. (Err Beaten, beaten_pruned s v t.0 a j) ∷ (Err ClosesRing, ring_pruned s v t.0 a j) ∷ [] in
+        subst (λ (l : List (Answer × Bool)). Good n m s (Commit t) l ((Err Beaten, beaten s t.0) ∷ (Err ClosesRing, ring (committing s t.0)) ∷ [])) (sym e) (commit-last a (beaten s t.0) (ring (committing s t.0)))
 
     call_commit : Same n m s (Commit t)
     unfolding tests
-    call_commit = good_call n m s (Commit t) (sane (Commit t) _ _ (active_good (Commit t) _ _ (unfold refused in stay_good (Commit t) NotActive refl refl refl) commit_good))
+    call_commit = good_call n m s (Commit t) (sane (Commit t) _ _ (active_good (Commit t) _ _ (unfold refused in stay_good (Commit t) (Err NotActive) refl refl refl) commit_good))
 
     abort_good : Active s t.0 → Good n m s (Abort t) [] []
     unfolding lowest outcome value after tables history
-    abort_good a = (λ j. (Accepted 0, drop_pruned s v t.0 a j), drop-fits a)
+    abort_good a = (λ j. (Ok 0, drop_pruned s v t.0 a j), drop-fits a)
 
     call_abort : Same n m s (Abort t)
     unfolding tests
-    call_abort = good_call n m s (Abort t) (sane (Abort t) _ _ (active_good (Abort t) _ _ (unfold refused in stay_good (Abort t) NotActive refl refl refl) abort_good))
+    call_abort = good_call n m s (Abort t) (sane (Abort t) _ _ (active_good (Abort t) _ _ (unfold refused in stay_good (Abort t) (Err NotActive) refl refl refl) abort_good))
 
   -- the latest value
-  latest_good : (i : ItemNo) (b : Bool) → leb s.count i.0 ≡ b → Good n m s (Latest i) ((UnknownItem, b) ∷ []) ((UnknownItem, b) ∷ [])
+  latest_good : (i : ItemNo) (b : Bool) → leb s.count i.0 ≡ b → Good n m s (Latest i) ((Err UnknownItem, b) ∷ []) ((Err UnknownItem, b) ∷ [])
   unfolding lowest outcome value after refused
   latest_good i true q = (refl, f)
-  latest_good i false q = (λ j. (Accepted (latest_pruned s v i.0 (leb-false s.count i.0 q) j), prune s), f)
+  latest_good i false q = (λ j. (Ok (latest_pruned s v i.0 (leb-false s.count i.0 q) j), prune s), f)
 
   call_latest : (i : ItemNo) → Same n m s (Latest i)
   unfolding tests prune forget

@@ -1,4 +1,5 @@
 -- The tests of a call and the sizes that it needs, of the pruned state. Assumes nothing.
+use Rattle.std.specs.Prelude.{Ok}
 use Rattle.rules.specs.Deps
 use Prim.Native.Nat.{◌≤◌, ℕ}
 use mathlib.Core.Bool.{Bool, ◌&&◌, false, false≢true, not, true}
@@ -17,9 +18,7 @@ use Rattle.rules.specs.Deps.{beaten}
 use Rattle.rules.specs.Machine.{Call, history, lowest, outcome, step, tables, tests, value}
 use Rattle.rules.specs.Spent.{forget, is_spent, prune}
 use Rattle.rules.specs.State.{State, is_active, opened, start_of}
-use Rattle.terms.specs.Words.{active, done, num, start}
-use Rattle.terms.specs.declared.Answer.{Answer}
-use Rattle.terms.specs.declared.Answer.TheVariants.{Accepted}
+use Rattle.terms.specs.Words.{Answer, active, done, num, start}
 use Rattle.terms.specs.declared.Row.{Row}
 use Rattle.theory.proofs.Actives.{Active, active-kept, idle, past}
 use Rattle.theory.proofs.Bare.{forget_opened}
@@ -108,8 +107,8 @@ pub record Same (n m : ℕ) (s : State) (x : Call) : Type 0 where
 -- the same of the outcomes by the tests l of the one and r of the other
 abbrev pub Good : ℕ → ℕ → State → Call → List (Answer × Bool) → List (Answer × Bool) → Type 0
 Good n m s x l r =
-    let q : Answer × State = outcome (history n m) s x (lowest (Accepted (value (history n m) s x)) r) in
-    (outcome (tables n m) (prune s) x (lowest (Accepted (value (tables n m) (prune s) x)) l) ≡ (q.0, prune q.1)) × Room n m q.1
+    let q : Answer × State = outcome (history n m) s x (lowest (Ok (value (history n m) s x)) r) in
+    (outcome (tables n m) (prune s) x (lowest (Ok (value (tables n m) (prune s) x)) l) ≡ (q.0, prune q.1)) × Room n m q.1
 
 pub good_call : (n m : ℕ) (s : State) (x : Call) → Good n m s x (tests (tables n m) (prune s) x) (tests (history n m) s x) → Same n m s x
 unfolding step

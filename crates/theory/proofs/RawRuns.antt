@@ -8,11 +8,11 @@ use native.Mathlib.Omega.{arith}
 use lib.Dec.{leb}
 use lib.ListN.{length, length-map}
 use borrow.Author.Tests.{eq-eqb, leb-true, ltb-true}
+use Rattle.std.specs.Prelude.{Err, Ok}
+use Rattle.terms.specs.declared.Refusal.TheVariants.{BadOpening}
 use Rattle.terms.specs.declared.Rec.{Rec}
 use Rattle.terms.specs.declared.Row.{Row}
-use Rattle.terms.specs.declared.Answer.{Answer}
-use Rattle.terms.specs.declared.Answer.TheVariants.{Accepted, BadOpening}
-use Rattle.terms.specs.Words.{accepted, item, paper, rec, txn, writer}
+use Rattle.terms.specs.Words.{Answer, accepted, item, paper, rec, txn, writer}
 use Rattle.rules.specs.Lists.{all}
 use Rattle.rules.specs.State.{State, begun, committing, dropped, has_read, insert, opened, start_of, with_recs, wrote}
 use Rattle.rules.specs.Versions.{after_read, after_write, version_at, visible}
@@ -157,9 +157,9 @@ module _ (n m : ℕ) where
         ap (λ (b : Bool). opening (openable c vs && b)) raw-fitting ∙ by_test (openable c vs) ∙ sym (ap (lent n m) (opens_by (tables n m) s c vs (openable c vs) refl))
       where
         opening : Bool → Answer × Raw
-        opening b = elim b [ true ↦ (Accepted 0, raw_of n m (opened vs)) | false ↦ (BadOpening, raw_of n m s) ]
+        opening b = elim b [ true ↦ (Ok 0, raw_of n m (opened vs)) | false ↦ (Err BadOpening, raw_of n m s) ]
 
-        by_test : (b : Bool) → opening (b && true) ≡ lent n m (elim b [ true ↦ (Accepted 0, opened vs) | false ↦ (BadOpening, s) ])
+        by_test : (b : Bool) → opening (b && true) ≡ lent n m (elim b [ true ↦ (Ok 0, opened vs) | false ↦ (Err BadOpening, s) ])
         by_test true = refl
         by_test false = refl
     call_raw Begin = on-sound Begin

@@ -5,14 +5,15 @@ use mathlib.Core.List.{List, [], ◌++◌, ◌∷◌}
 use mathlib.Core.Path.{◌∙◌, ◌≡◌, ap, refl, subst, sym}
 use native.Mathlib.Omega.{arith}
 use lib.ListN.{get_or, length}
+use Rattle.std.specs.Prelude.{Err, Ok}
+use Rattle.terms.specs.Words.{Answer}
+use Rattle.terms.specs.declared.Refusal.TheVariants.{BadOpening}
 use Rattle.laws.proofs.Lists.{both_ways, mem_in, mem_out}
 use Rattle.rules.specs.Lists.{any}
 use Rattle.rules.specs.Machine.{Call, Line, Machine, Open, final, history, lines, openable, states, step}
 use Rattle.rules.specs.Serial.{Fits, Serial, committers, in_turn, leaves, newest_put, opening}
 use Rattle.rules.specs.State.{State, opened}
 use Rattle.rules.specs.Versions.{latest}
-use Rattle.terms.specs.declared.Answer.{Answer}
-use Rattle.terms.specs.declared.Answer.TheVariants.{Accepted, BadOpening}
 use Rattle.theory.proofs.LawfulCalls.{openable_out}
 use Rattle.theory.proofs.Refusing.{opens_by}
 use Rattle.theory.proofs.Told.{Told}
@@ -44,14 +45,14 @@ told_serial vs ls s so = (
 -- ---- since the last accepted opening
 
 -- an accepted opening, of any machine
-opened_now : (m : Machine) (s : State) (c : ℕ) (vs : List ℕ) (v : ℕ) → (step m s (Open c vs)).0 ≡ Accepted v
+opened_now : (m : Machine) (s : State) (c : ℕ) (vs : List ℕ) (v : ℕ) → (step m s (Open c vs)).0 ≡ Ok v
     → ((step m s (Open c vs)).1 ≡ opened vs) × (1 ≤ length vs) × (length vs ≤ 256) × (length vs ≡ c)
 opened_now m s c vs v e = go (openable c vs) refl
   where
     go : (b : Bool) → openable c vs ≡ b → ((step m s (Open c vs)).1 ≡ opened vs) × (1 ≤ length vs) × (length vs ≤ 256) × (length vs ≡ c)
     go true h = let u = openable_out c vs h in (ap (λ (q : Answer × State). q.1) (opens_by m s c vs true h), u.0, u.1, u.2)
     go false h =
-        let r : BadOpening ≡ Accepted v = sym (ap (λ (q : Answer × State). q.0) (opens_by m s c vs false h)) ∙ e in
+        let r : (Err BadOpening) ≡ Ok v = sym (ap (λ (q : Answer × State). q.0) (opens_by m s c vs false h)) ∙ e in
         let z : ◌≡◌ {A = ℕ} 0 1 = cc in absurd (omega arith)
 
 -- the lines since an accepted opening are those of some calls from the opened state
@@ -64,7 +65,7 @@ pub record Since (m : Machine) (s : State) (xs : List Call) (since : List Line) 
   pub count : length vs ≡ c
 
 pub since-opening : (m : Machine) (s : State) (xs : List Call) (before since : List Line) (c : ℕ) (vs : List ℕ) (v : ℕ)
-    → lines m s xs ≡ before ++ ((Open c vs, Accepted v) ∷ since) → Since m s xs since c vs
+    → lines m s xs ≡ before ++ ((Open c vs, Ok v) ∷ since) → Since m s xs since c vs
 unfolding lines states final
 since-opening m s [] [] since c vs v e = let z : ◌≡◌ {A = ℕ} 0 1 = cc in absurd (omega arith)
 since-opening m s [] (b ∷ before) since c vs v e = let z : ◌≡◌ {A = ℕ} 0 1 = cc in absurd (omega arith)
@@ -72,7 +73,7 @@ since-opening m s (x ∷ xs) (b ∷ before) since c vs v e =
     let r = since-opening m (step m s x).1 xs before since c vs v (cc) in
     record { calls = r.calls; said = r.said; ends = r.ends; some = r.some; most = r.most; count = r.count }
 since-opening m s (x ∷ xs) [] since c vs v e =
-    let h : ◌≡◌ {A = Line} (x, (step m s x).0) (Open c vs, Accepted v) = cc in
+    let h : ◌≡◌ {A = Line} (x, (step m s x).0) (Open c vs, Ok v) = cc in
     let r : lines m (step m s x).1 xs ≡ since = cc in
     let q : x ≡ Open c vs = ap (λ (l : Line). l.0) h in
     let u = opened_now m s c vs v (ap (λ (y : Call). (step m s y).0) (sym q) ∙ ap (λ (l : Line). l.1) h) in

@@ -9,6 +9,8 @@ use native.Mathlib.Omega.{arith}
 use lib.Dec.{leb}
 use lib.ListN.{length}
 use borrow.Author.Tests.{eq-eqb, leb-false, ne_eqb, not-false}
+use Rattle.std.specs.Prelude.{Err, Ok}
+use Rattle.terms.specs.declared.Refusal.TheVariants.{BadOpening, Beaten, ClosesRing, NotActive, NumbersUsedUp, RecordsFull, RowsFull, UnknownItem, UnsoundTables}
 use Rattle.laws.proofs.Lists.{◌∈◌}
 use Rattle.laws.proofs.Versions.{commits_out}
 use Rattle.rules.specs.Lists.{any}
@@ -17,9 +19,7 @@ use Rattle.rules.specs.Serial.{Act, Store, act, acts, committer, committers, got
 use Rattle.rules.specs.Sound.{lawful}
 use Rattle.rules.specs.State.{State, begun, commits, committing, dropped, has_read, insert, is_active, opened, recorded, with_recs, written, wrote}
 use Rattle.rules.specs.Versions.{after_read, after_write, latest, read_value, visible}
-use Rattle.terms.specs.Words.{accepted, committed, num, paper, rec, writer}
-use Rattle.terms.specs.declared.Answer.{Answer}
-use Rattle.terms.specs.declared.Answer.TheVariants.{Accepted, BadOpening, Beaten, ClosesRing, NotActive, NumbersUsedUp, RecordsFull, RowsFull, UnknownItem, UnsoundTables}
+use Rattle.terms.specs.Words.{Answer, accepted, committed, num, paper, rec, writer}
 use Rattle.terms.specs.declared.ItemNo.{ItemNo}
 use Rattle.terms.specs.declared.Rec.{Rec}
 use Rattle.terms.specs.declared.Row.{Row}
@@ -35,7 +35,7 @@ use Rattle.theory.proofs.Told.{Told, acted, acts_of, below_next, given_right, re
 module _ (n k : ℕ) (vs : List ℕ) (ls : List Line) (s : State) (so : Told vs ls s) where
   abbrev Next : Call → List (Answer × Bool) → Type 0
   Next x l =
-      let q : Answer × State = outcome (history n k) s x (lowest (Accepted (value (history n k) s x)) l) in
+      let q : Answer × State = outcome (history n k) s x (lowest (Ok (value (history n k) s x)) l) in
       lawful q.1 ≡ true → Told vs (ls ++ ((x, q.0) ∷ [])) q.1
 
   refusal : (x : Call) (a : Answer) → accepted a ≡ false → Told vs (ls ++ ((x, a) ∷ [])) s
@@ -44,9 +44,9 @@ module _ (n k : ℕ) (vs : List ℕ) (ls : List Line) (s : State) (so : Told vs 
       none : {A : Type 0} (f : Call → ℕ → List A) → tells f (x, a) ≡ []
       none {A} f = ap {B = List A} (λ b. elim b [ true ↦ f x (paper a).value | false ↦ [] ]) e
 
-  begins : lawful (begun s) ≡ true → Told vs (ls ++ ((Begin, Accepted s.next) ∷ [])) (begun s)
+  begins : lawful (begun s) ≡ true → Told vs (ls ++ ((Begin, Ok s.next) ∷ [])) (begun s)
   unfolding act committer begun leaves
-  begins f = acted vs ls s so (begun s) s.next (Begin, Accepted s.next) (begin_frame s so.inv) f (omega arith) (λ u ne. refl)
+  begins f = acted vs ls s so (begun s) s.next (Begin, Ok s.next) (begin_frame s so.inv) f (omega arith) (λ u ne. refl)
       (λ r mr e. subst (λ (ds : List Act). Acts (begun s) s.next (ds ++ [])) (sym (so.fresh s.next (omega arith)))
       (record { fits = λ m h. tt; puts = λ m i h. absurd (begin_unrecorded s so.inv i 2 h); other = λ m i h. refl }))
       (λ m. let u = commits_out (begun s) m in absurd (begin_never s so.inv u.0 u.1 u.3 u.2))
@@ -91,12 +91,12 @@ module _ (n k : ℕ) (vs : List ℕ) (ls : List Line) (s : State) (so : Told vs 
 
       -- without a new record
       rereads : (v : ℕ) → ((m : Store) → ((j : ℕ) → has_read s t j ≡ true → m j ≡ (visible s t j).value) → leaves m (acts t ls) it.0 ≡ v)
-          → Told vs (ls ++ ((Read tn it, Accepted v) ∷ [])) s
+          → Told vs (ls ++ ((Read tn it, Ok v) ∷ [])) s
       unfolding committer
-      rereads v h = does s (Read tn it, Accepted v) (stay_frame s so.inv t on) (lawful_from s so.inv so.free) (omega arith) never (read_others v) refl
+      rereads v h = does s (Read tn it, Ok v) (stay_frame s so.inv t on) (lawful_from s so.inv so.free) (omega arith) never (read_others v) refl
           (λ r mr e. subst (λ (ds : List Act). Acts s t (acts t ls ++ ds)) (sym (read-act v)) (given_right vs ls s so t on it.0 v h))
 
-      reads : lawful (after_read s t it.0) ≡ true → Told vs (ls ++ ((Read tn it, Accepted (read_value s t it.0)) ∷ [])) (after_read s t it.0)
+      reads : lawful (after_read s t it.0) ≡ true → Told vs (ls ++ ((Read tn it, Ok (read_value s t it.0)) ∷ [])) (after_read s t it.0)
       unfolding read_value after_read committer
       reads = go (has_read s t it.0) (wrote s t it.0) refl refl
         where
@@ -110,18 +110,18 @@ module _ (n k : ℕ) (vs : List ℕ) (ls : List Line) (s : State) (so : Told vs 
           x1 = rec t it.0 1 (writer (visible s t it.0))
 
           go : (b c : Bool) → has_read s t it.0 ≡ b → wrote s t it.0 ≡ c
-              → lawful (cond (b || c) s (with_recs s (insert x1 s.recs))) ≡ true → Told vs (ls ++ ((Read tn it, Accepted (cond c (written s t it.0) (visible s t it.0).value)) ∷ [])) (cond (b || c) s (with_recs s (insert x1 s.recs)))
+              → lawful (cond (b || c) s (with_recs s (insert x1 s.recs))) ≡ true → Told vs (ls ++ ((Read tn it, Ok (cond c (written s t it.0) (visible s t it.0).value)) ∷ [])) (cond (b || c) s (with_recs s (insert x1 s.recs)))
           go true true p q f = rereads (written s t it.0) (λ m h. a.puts m it.0 q)
           go false true p q f = rereads (written s t it.0) (λ m h. a.puts m it.0 q)
           go true false p q f = rereads (visible s t it.0).value (λ m h. a.other m it.0 q ∙ h it.0 p)
-          go false false p q f = does (with_recs s (insert x1 s.recs)) (Read tn it, Accepted (visible s t it.0).value)
+          go false false p q f = does (with_recs s (insert x1 s.recs)) (Read tn it, Ok (visible s t it.0).value)
               (enter_frame s so.inv x1 fit on) f (omega arith) never (read_others (visible s t it.0).value) refl
               (λ r mr e. subst (λ (ds : List Act). Acts (with_recs s (insert x1 s.recs)) t (acts t ls ++ ds)) (sym (read-act (visible s t it.0).value))
               (read_new vs ls s so t it.0 on within q))
 
-      writes : (w : ℕ) → lawful (after_write s t it.0 w) ≡ true → Told vs (ls ++ ((Write tn it w, Accepted 0) ∷ [])) (after_write s t it.0 w)
+      writes : (w : ℕ) → lawful (after_write s t it.0 w) ≡ true → Told vs (ls ++ ((Write tn it w, Ok 0) ∷ [])) (after_write s t it.0 w)
       unfolding after_write committer
-      writes w f = does (with_recs s (insert y1 s.recs)) (Write tn it w, Accepted 0)
+      writes w f = does (with_recs s (insert y1 s.recs)) (Write tn it w, Ok 0)
           (enter_frame s so.inv y1 fit on) f (omega arith) never (write_others 0 w) refl
           (λ r mr e. subst (λ (ds : List Act). Acts (with_recs s (insert y1 s.recs)) t (acts t ls ++ ds)) (sym (write-act 0 w))
           (write_new vs ls s so t it.0 on within w))
@@ -154,55 +154,55 @@ module _ (n k : ℕ) (vs : List ℕ) (ls : List Line) (s : State) (so : Told vs 
         (λ m. subst (λ (q : List ℕ). t ∈ q) (sym c) (Memᴰ.head refl))
         (λ u m. Memᴰ.cast (Memᴰ.eq_of_singleton (subst (λ (q : List ℕ). u ∈ q) c m)) (commit-here s so.inv t on)) (inr c)
 
-  call_open : (c : ℕ) (vs' : List ℕ) (b : Bool) → opening (Open c vs', (outcome (history n k) s (Open c vs') (lowest (Accepted 0) ((BadOpening, not b) ∷ []))).0) ≡ false
-      → Next (Open c vs') ((BadOpening, not b) ∷ [])
+  call_open : (c : ℕ) (vs' : List ℕ) (b : Bool) → opening (Open c vs', (outcome (history n k) s (Open c vs') (lowest (Ok 0) ((Err BadOpening, not b) ∷ []))).0) ≡ false
+      → Next (Open c vs') ((Err BadOpening, not b) ∷ [])
   unfolding lowest outcome opening opens value after refused
-  call_open c vs' false h f' = refusal (Open c vs') BadOpening refl
+  call_open c vs' false h f' = refusal (Open c vs') (Err BadOpening) refl
   call_open c vs' true h f' = absurd (false≢true (sym h))
 
-  call_begin : (b1 b4 b5 : Bool) → Next Begin ((UnsoundTables, b1) ∷ (NumbersUsedUp, b4) ∷ (RowsFull, b5) ∷ [])
+  call_begin : (b1 b4 b5 : Bool) → Next Begin ((Err UnsoundTables, b1) ∷ (Err NumbersUsedUp, b4) ∷ (Err RowsFull, b5) ∷ [])
   unfolding lowest outcome value after refused
-  call_begin true b4 b5 f' = refusal Begin UnsoundTables refl
-  call_begin false true b5 f' = refusal Begin NumbersUsedUp refl
-  call_begin false false true f' = refusal Begin RowsFull refl
+  call_begin true b4 b5 f' = refusal Begin (Err UnsoundTables) refl
+  call_begin false true b5 f' = refusal Begin (Err NumbersUsedUp) refl
+  call_begin false false true f' = refusal Begin (Err RowsFull) refl
   call_begin false false false f' = begins f'
 
-  call_latest : (it : ItemNo) (b1 b2 : Bool) → Next (Latest it) ((UnsoundTables, b1) ∷ (UnknownItem, b2) ∷ [])
+  call_latest : (it : ItemNo) (b1 b2 : Bool) → Next (Latest it) ((Err UnsoundTables, b1) ∷ (Err UnknownItem, b2) ∷ [])
   unfolding lowest outcome value after refused act committer
-  call_latest it true b2 f' = refusal (Latest it) UnsoundTables refl
-  call_latest it false true f' = refusal (Latest it) UnknownItem refl
-  call_latest it false false f' = unmoved vs ls s so (Latest it, Accepted (latest s it.0)) (λ t. refl) refl
+  call_latest it true b2 f' = refusal (Latest it) (Err UnsoundTables) refl
+  call_latest it false true f' = refusal (Latest it) (Err UnknownItem) refl
+  call_latest it false false f' = unmoved vs ls s so (Latest it, Ok (latest s it.0)) (λ t. refl) refl
 
   module _ (tn : TxnNo) where
-    call_abort : (b1 b3 : Bool) → not (is_active s tn.0) ≡ b3 → Next (Abort tn) ((UnsoundTables, b1) ∷ (NotActive, b3) ∷ [])
+    call_abort : (b1 b3 : Bool) → not (is_active s tn.0) ≡ b3 → Next (Abort tn) ((Err UnsoundTables, b1) ∷ (Err NotActive, b3) ∷ [])
     unfolding lowest outcome value after refused history act committer
-    call_abort true b3 e f' = refusal (Abort tn) UnsoundTables refl
-    call_abort false true e f' = refusal (Abort tn) NotActive refl
-    call_abort false false e f' = leaves_now tn.0 (not-false _ e) (Abort tn, Accepted 0) (λ u. refl) refl f'
+    call_abort true b3 e f' = refusal (Abort tn) (Err UnsoundTables) refl
+    call_abort false true e f' = refusal (Abort tn) (Err NotActive) refl
+    call_abort false false e f' = leaves_now tn.0 (not-false _ e) (Abort tn, Ok 0) (λ u. refl) refl f'
 
-    call_commit : (b1 b3 b7 b8 : Bool) → not (is_active s tn.0) ≡ b3 → Next (Commit tn) ((UnsoundTables, b1) ∷ (NotActive, b3) ∷ (Beaten, b7) ∷ (ClosesRing, b8) ∷ [])
+    call_commit : (b1 b3 b7 b8 : Bool) → not (is_active s tn.0) ≡ b3 → Next (Commit tn) ((Err UnsoundTables, b1) ∷ (Err NotActive, b3) ∷ (Err Beaten, b7) ∷ (Err ClosesRing, b8) ∷ [])
     unfolding lowest outcome value after refused history act committer
-    call_commit true b3 b7 b8 e f' = refusal (Commit tn) UnsoundTables refl
-    call_commit false true b7 b8 e f' = refusal (Commit tn) NotActive refl
-    call_commit false false true b8 e f' = leaves_now tn.0 (not-false _ e) (Commit tn, Beaten) (λ u. refl) refl f'
-    call_commit false false false true e f' = leaves_now tn.0 (not-false _ e) (Commit tn, ClosesRing) (λ u. refl) refl f'
-    call_commit false false false false e f' = commits_now tn.0 (not-false _ e) (Commit tn, Accepted s.moment) (λ u. refl) refl f'
+    call_commit true b3 b7 b8 e f' = refusal (Commit tn) (Err UnsoundTables) refl
+    call_commit false true b7 b8 e f' = refusal (Commit tn) (Err NotActive) refl
+    call_commit false false true b8 e f' = leaves_now tn.0 (not-false _ e) (Commit tn, (Err Beaten)) (λ u. refl) refl f'
+    call_commit false false false true e f' = leaves_now tn.0 (not-false _ e) (Commit tn, (Err ClosesRing)) (λ u. refl) refl f'
+    call_commit false false false false e f' = commits_now tn.0 (not-false _ e) (Commit tn, Ok s.moment) (λ u. refl) refl f'
 
     module _ (it : ItemNo) where
-      call_read : (b1 b2 b3 b6 : Bool) → leb s.count it.0 ≡ b2 → not (is_active s tn.0) ≡ b3 → Next (Read tn it) ((UnsoundTables, b1) ∷ (UnknownItem, b2) ∷ (NotActive, b3) ∷ (RecordsFull, b6) ∷ [])
+      call_read : (b1 b2 b3 b6 : Bool) → leb s.count it.0 ≡ b2 → not (is_active s tn.0) ≡ b3 → Next (Read tn it) ((Err UnsoundTables, b1) ∷ (Err UnknownItem, b2) ∷ (Err NotActive, b3) ∷ (Err RecordsFull, b6) ∷ [])
       unfolding lowest outcome value after refused
-      call_read true b2 b3 b6 e f f' = refusal (Read tn it) UnsoundTables refl
-      call_read false true b3 b6 e f f' = refusal (Read tn it) UnknownItem refl
-      call_read false false true b6 e f f' = refusal (Read tn it) NotActive refl
-      call_read false false false true e f f' = refusal (Read tn it) RecordsFull refl
+      call_read true b2 b3 b6 e f f' = refusal (Read tn it) (Err UnsoundTables) refl
+      call_read false true b3 b6 e f f' = refusal (Read tn it) (Err UnknownItem) refl
+      call_read false false true b6 e f f' = refusal (Read tn it) (Err NotActive) refl
+      call_read false false false true e f f' = refusal (Read tn it) (Err RecordsFull) refl
       call_read false false false false e f f' = reads tn.0 (not-false _ f) tn it refl (leb-false _ _ e) f'
 
-      call_write : (v : ℕ) (b1 b2 b3 b6 : Bool) → leb s.count it.0 ≡ b2 → not (is_active s tn.0) ≡ b3 → Next (Write tn it v) ((UnsoundTables, b1) ∷ (UnknownItem, b2) ∷ (NotActive, b3) ∷ (RecordsFull, b6) ∷ [])
+      call_write : (v : ℕ) (b1 b2 b3 b6 : Bool) → leb s.count it.0 ≡ b2 → not (is_active s tn.0) ≡ b3 → Next (Write tn it v) ((Err UnsoundTables, b1) ∷ (Err UnknownItem, b2) ∷ (Err NotActive, b3) ∷ (Err RecordsFull, b6) ∷ [])
       unfolding lowest outcome value after refused
-      call_write v true b2 b3 b6 e f f' = refusal (Write tn it v) UnsoundTables refl
-      call_write v false true b3 b6 e f f' = refusal (Write tn it v) UnknownItem refl
-      call_write v false false true b6 e f f' = refusal (Write tn it v) NotActive refl
-      call_write v false false false true e f f' = refusal (Write tn it v) RecordsFull refl
+      call_write v true b2 b3 b6 e f f' = refusal (Write tn it v) (Err UnsoundTables) refl
+      call_write v false true b3 b6 e f f' = refusal (Write tn it v) (Err UnknownItem) refl
+      call_write v false false true b6 e f f' = refusal (Write tn it v) (Err NotActive) refl
+      call_write v false false false true e f f' = refusal (Write tn it v) (Err RecordsFull) refl
       call_write v false false false false e f f' = writes tn.0 (not-false _ f) tn it refl (leb-false _ _ e) v f'
 
   -- a call

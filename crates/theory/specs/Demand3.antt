@@ -1,11 +1,10 @@
 -- Demand 3, of both machines, of any sizes: since the last accepted opening the committed transactions have a serial order. Assumes nothing.
-use Rattle.std.specs.Prelude.{◌<◌, ◌≤◌, ℕ, false, List, ◌++◌, ◌∷◌, ◌≡◌, get_or, length}
+use Rattle.std.specs.Prelude.{◌<◌, ◌≤◌, ℕ, false, List, ◌++◌, ◌∷◌, ◌≡◌, get_or, length, Ok}
 use Rattle.rules.specs.Lists.{any}
 use Rattle.rules.specs.Machine.{Call, Line, Machine, Open, final, history, lines, tables}
 use Rattle.rules.specs.Serial.{Serial, committers, newest_put, opening}
 use Rattle.rules.specs.State.{State, opened}
 use Rattle.rules.specs.Versions.{latest}
-use Rattle.terms.specs.declared.Answer.TheVariants.{Accepted}
 
 -- What some lines since an opening with the values vs say, with refused calls among them, where s is the state after them: there is a
 -- serial order, and the newest committed value of each item, by the lines alone, is its latest value.
@@ -17,7 +16,7 @@ SerialSince vs ls s =
 abbrev pub Serialized : Machine → Type 0
 Serialized c =
     (s : State) (xs : List Call) (before since : List Line) (k : ℕ) (vs : List ℕ) (v : ℕ)
-    → lines c s xs ≡ before ++ ((Open k vs, Accepted v) ∷ since) → any opening since ≡ false → SerialSince vs since (final c s xs)
+    → lines c s xs ≡ before ++ ((Open k vs, Ok v) ∷ since) → any opening since ≡ false → SerialSince vs since (final c s xs)
 
 -- from an opened state
 abbrev pub SerializedFrom : Machine → Type 0

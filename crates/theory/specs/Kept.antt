@@ -1,6 +1,7 @@
 -- Sound tables stay sound, and pruning makes them so. Of machines of any sizes, n rows and m records. Assumes nothing.
-use Rattle.std.specs.Prelude.{◌≤◌, ℕ, false, true, ◌≡◌, length}
+use Rattle.std.specs.Prelude.{◌≤◌, ℕ, false, true, ◌≡◌, length, Err}
 use mathlib.Core.List.{Memᴰ}
+use Rattle.terms.specs.declared.Refusal.TheVariants.{UnsoundTables}
 use Rattle.rules.specs.Lists.{all}
 use Rattle.rules.specs.Machine.{Call, step, tables}
 use Rattle.rules.specs.Serial.{opens}
@@ -8,7 +9,6 @@ use Rattle.rules.specs.Sound.{lawful, sound}
 use Rattle.rules.specs.Spent.{Spent, prune}
 use Rattle.rules.specs.State.{State, commits}
 use Rattle.terms.specs.Words.{committed}
-use Rattle.terms.specs.declared.Answer.TheVariants.{UnsoundTables}
 
 -- "Every call on sound tables leaves sound tables", reached or not.
 abbrev pub SoundKept : Type 0
@@ -16,7 +16,7 @@ SoundKept = (n m : ℕ) (s : State) → sound n m s ≡ true → (x : Call) → 
 
 -- On unsound tables every call but an opening is answered so, and changes nothing.
 abbrev pub UnsoundRefused : Type 0
-UnsoundRefused = (n m : ℕ) (s : State) → sound n m s ≡ false → (x : Call) → opens x ≡ false → step (tables n m) s x ≡ (UnsoundTables, s)
+UnsoundRefused = (n m : ℕ) (s : State) → sound n m s ≡ false → (x : Call) → opens x ≡ false → step (tables n m) s x ≡ (Err UnsoundTables, s)
 
 -- A lawful state that is pruned is sound, if it fits the tables, and there is nothing left to prune.
 abbrev pub PruneSound : Type 0

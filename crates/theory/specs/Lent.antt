@@ -1,6 +1,6 @@
 -- Demands 2 and 3 of lent tables: the functions that the contracts of the public calls cite, one after another. Of boards of any sizes,
 -- n rows and m records. Assumes nothing.
-use Rattle.std.specs.Prelude.{ℕ, false, true, List, ◌++◌, ◌∷◌, map, ◌≡◌}
+use Rattle.std.specs.Prelude.{ℕ, false, true, List, ◌++◌, ◌∷◌, map, ◌≡◌, Ok}
 use Rattle.rules.specs.Lists.{all, any}
 use Rattle.rules.specs.Machine.{Call, Line, Open, history, lines, states}
 use Rattle.rules.specs.Public.{in_range, lines_on, open_on, raws_on}
@@ -8,7 +8,6 @@ use Rattle.rules.specs.Raw.{Raw, raw_of, sound_raw, state_of}
 use Rattle.rules.specs.Serial.{Serial, opening}
 use Rattle.rules.specs.Spent.{prune}
 use Rattle.rules.specs.State.{State, opened}
-use Rattle.terms.specs.declared.Answer.TheVariants.{Accepted}
 
 -- Tables w and a state s, called alike: each answer is the history machine's, the tables hold after each call the history pruned, with
 -- all their padding, and they are sound.
@@ -22,7 +21,7 @@ Follows n m w s xs =
 -- with any values. No call writes a value above 4,294,967,295, which no value of the code is.
 abbrev pub LentOpened : Type 0
 LentOpened =
-    (n m : ℕ) (w : Raw) (c : ℕ) (vs : List ℕ) → (open_on n m c vs w).0 ≡ Accepted 0
+    (n m : ℕ) (w : Raw) (c : ℕ) (vs : List ℕ) → (open_on n m c vs w).0 ≡ Ok 0
     → (xs : List Call) → all in_range xs ≡ true → Follows n m (open_on n m c vs w).1 (opened vs) xs
 
 -- From any sound tables, also those that no history reaches.
@@ -33,5 +32,5 @@ LentSound = (n m : ℕ) (w : Raw) → sound_raw n m w ≡ true → (xs : List Ca
 abbrev pub LentSerial : Type 0
 LentSerial =
     (n m : ℕ) (w : Raw) → sound_raw n m w ≡ true → (xs : List Call) → all in_range xs ≡ true
-    → (before since : List Line) (k : ℕ) (vs : List ℕ) (v : ℕ) → lines_on n m w xs ≡ before ++ ((Open k vs, Accepted v) ∷ since)
+    → (before since : List Line) (k : ℕ) (vs : List ℕ) (v : ℕ) → lines_on n m w xs ≡ before ++ ((Open k vs, Ok v) ∷ since)
     → any opening since ≡ false → (order : List ℕ) × Serial vs since order
