@@ -2,6 +2,6 @@ pub mod Inserts
 pub mod Keeps
 pub mod Untils
 pub mod Pads
-pub mod Changes
 pub mod Scans
 pub mod Loops
+pub mod Firsts

@@ -1,14 +1,12 @@
 -- Padding: its length, what does not see it, and what a change of the whole table does to the used part. Assumes nothing.
 use Prim.Native.Nat.{ℕ, zero, suc, ◌+◌, ◌-◌, ◌≤◌, ◌<◌}
 use native.Mathlib.Omega.{arith}
-use mathlib.Core.Bool.{Bool, true, false, cond, ◌&&◌, ◌||◌}
+use mathlib.Core.Bool.{Bool, true, false, cond, ◌||◌}
 use mathlib.Core.Path.{◌≡◌, refl, sym, ap, ap₂, ◌∙◌}
-use mathlib.Core.Logic.{◌⊎◌, inl, inr}
-use mathlib.Core.List.Memᴰ
-use mathlib.Core.List.{List, [], ◌∷◌, ◌++◌, map, map-append, append-nil, append_assoc, Memᴰ}
+use mathlib.Core.List.{List, [], ◌∷◌, ◌++◌, map, map-append, append-nil, append_assoc}
 use lib.ListN.{length, get_or, take, set, replicate, length-append, length-replicate, length-set, length-map, replicate-append-replicate}
-use lib.Seq.{take-append_seam, take-append-add, take-append-le, set-append_left}
-use Rattle.rules.specs.Lists.{any, all, keep, until, padded}
+use lib.Seq.{take-append_seam, take-append-add, set-append_left}
+use Rattle.rules.specs.Lists.{any, keep, until, padded}
 use Rattle.lists.specs.Tables.{insert_at, insert_in, first_index}
 use Rattle.lists.proofs.Inserts.{length-insert, insert-append}
 use Rattle.lists.proofs.Keeps.{put, keep_append, length-keep}
@@ -46,14 +44,6 @@ module _ {A : Type 0} where
   pub get_or-padded : (n i : ℕ) (z : A) (xs : List A) → get_or (padded n z xs) i z ≡ get_or xs i z
   get_or-padded n i z xs = get_or-end (n - length xs) i z xs
 
-  mem_filled : (k : ℕ) {z x : A} → Memᴰ x (replicate k z) → x ≡ z
-  mem_filled zero m = elim m [ ]
-  mem_filled (suc k) m = elim (Memᴰ.cases_cons m) [ inl e ↦ e | inr r ↦ mem_filled k r ]
-
-  -- what stands behind the used part is the filler
-  pub mem-padded : (n : ℕ) (z : A) (xs : List A) {x : A} → Memᴰ x (padded n z xs) → Memᴰ x xs ⊎ (x ≡ z)
-  mem-padded n z xs m = elim (Memᴰ.append_cases xs m) [ inl u ↦ inl u | inr r ↦ inr (mem_filled (n - length xs) r) ]
-
   -- ---- what goes through the elements from the end, and passes over the filler, does not see the padding
   module _ {B : Type 0} (g : List A → B) (step : A → B → B) (cons : (x : A) (ys : List A) → g (x ∷ ys) ≡ step x (g ys)) (z : A) (blind : step z (g []) ≡ g []) where
     fold_filled : (k : ℕ) → g (replicate k z) ≡ g []
@@ -70,9 +60,6 @@ module _ {A : Type 0} where
   module _ (p : A → Bool) (n : ℕ) (z : A) (xs : List A) where
     pub any-padded : p z ≡ false → any p (padded n z xs) ≡ any p xs
     any-padded e = fold-padded (any p) (λ x b. p x || b) (λ x ys. refl) z (ap (λ (b : Bool). b || false) e) n xs
-
-    pub all-padded : p z ≡ true → all p (padded n z xs) ≡ all p xs
-    all-padded e = fold-padded (all p) (λ x b. p x && b) (λ x ys. refl) z (ap (λ (b : Bool). b && true) e) n xs
 
     pub keep-padded : p z ≡ false → keep p (padded n z xs) ≡ keep p xs
     keep-padded e = fold-padded (keep p) (λ x l. put (p x) x l) (λ x ys. refl) z (ap (λ (b : Bool). put b z []) e) n xs
@@ -112,9 +99,6 @@ module _ {A : Type 0} where
 
   pub padded-set : (n i : ℕ) (z a : A) (xs : List A) → i < length xs → set (padded n z xs) i a ≡ padded n z (set xs i a)
   padded-set n i z a xs h = set-append_left xs (replicate (n - length xs) z) i a h ∙ ap (λ (j : ℕ). set xs i a ++ replicate (n - j) z) (sym (length-set xs i a))
-
-  pub padded-take : (n f : ℕ) (z : A) (xs : List A) → f ≤ length xs → padded n z (take f (padded n z xs)) ≡ padded n z (take f xs)
-  padded-take n f z xs h = ap (padded n z) (take-append-le f xs (replicate (n - length xs) z) h)
 
   pub padded-kept : (p : A → Bool) (n : ℕ) (z : A) (xs : List A) → length xs ≤ n → padded n z (keep p (padded n z xs)) ≡ padded n z (keep p xs)
   padded-kept p n z xs h = go (p z) refl

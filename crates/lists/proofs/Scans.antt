@@ -3,12 +3,12 @@ use Prim.Native.Nat.{ℕ, zero, suc, ◌+◌, ◌≤◌, ◌<◌, zero-le}
 use native.Mathlib.Numerals.{add-one, add-one-le}
 use native.Mathlib.Nat.{add-zero, zero-add}
 use native.Mathlib.Omega.{arith}
-use mathlib.Core.Bool.{Bool, true, false, cond, ◌&&◌, ◌||◌}
+use mathlib.Core.Bool.{Bool, true, false, cond}
 use mathlib.Core.Path.{◌≡◌, refl, sym, ap, ◌∙◌}
 use mathlib.Core.List.{List, [], ◌∷◌}
 use lib.ListN.{length, get_or, take, drop, length-take, drop_of_length-le}
 use lib.Seq.{drop-cons, get_or-take}
-use Rattle.rules.specs.Lists.{any, all, upfrom}
+use Rattle.rules.specs.Lists.{upfrom}
 use Rattle.lists.specs.Tables.{first_index}
 
 -- the scan has come to index j: f of what is left is the answer v
@@ -68,26 +68,8 @@ module _ {B : Type 0} (n : ℕ) {f : List ℕ → B} {v : B} {j : ℕ} (s : Goin
   pub count_next : (g : List ℕ → B) → j < n → ((ys : List ℕ) → f (j ∷ ys) ≡ g ys) → Going (upfrom 0 n) g v (j + 1)
   count_next g l e = go_next s 0 g (omega (arith, length-upfrom 0 n)) (rw (here l) e)
 
-  pub count-here : {w : B} → j < n → ((ys : List ℕ) → f (j ∷ ys) ≡ w) → w ≡ v
-  count-here l e = go_here s 0 (omega (arith, length-upfrom 0 n)) (rw (here l) e)
-
   pub count-done : n ≤ j → f [] ≡ v
   count-done l = go_done s (omega (arith, length-upfrom 0 n))
-
--- ---- whether one passes, whether all pass
-
-module _ {A : Type 0} (p : A → Bool) {xs : List A} {v : Bool} {j : ℕ} where
-  pub any_next : Going xs (any p) v j → (d : A) → j < length xs → p (get_or xs j d) ≡ false → Going xs (any p) v (j + 1)
-  any_next s d l e = go_next s d (any p) l (λ ys. ap (λ (b : Bool). b || any p ys) e)
-
-  pub any_here : Going xs (any p) v j → (d : A) → j < length xs → p (get_or xs j d) ≡ true → true ≡ v
-  any_here s d l e = go_here s d l (λ ys. ap (λ (b : Bool). b || any p ys) e)
-
-  pub all-next : Going xs (all p) v j → (d : A) → j < length xs → p (get_or xs j d) ≡ true → Going xs (all p) v (j + 1)
-  all-next s d l e = go_next s d (all p) l (λ ys. ap (λ (b : Bool). b && all p ys) e)
-
-  pub all_here : Going xs (all p) v j → (d : A) → j < length xs → p (get_or xs j d) ≡ false → false ≡ v
-  all_here s d l e = go_here s d l (λ ys. ap (λ (b : Bool). b && all p ys) e)
 
 -- ---- the first index that passes
 

@@ -1,5 +1,8 @@
--- Tables as lists: an element put in at a place, the first place that passes, each element changed at its place. Assumes nothing.
-use Rattle.std.specs.Prelude.{ℕ, zero, suc, Bool, cond, List, [], ◌∷◌, length, take}
+-- Tables as lists: an element put in at a place, the first place that passes, a closure that is a test. Assumes nothing.
+use denote.Param.Members.{Shared}
+use denote.Ref.{Bor}
+use Rattle.std.specs.Prelude.{ℕ, zero, suc, ◌≡◌, Bool, cond, List, [], ◌∷◌, length, take}
+use Rattle.std.specs.Fn.{FnReturnsAt}
 
 module _ {A : Type 0} where
   -- xs with r put in at index n, or at the end where n is past it
@@ -17,7 +20,6 @@ module _ {A : Type 0} where
   first_index p [] = zero
   first_index p (x ∷ xs) = cond (p x) zero (suc (first_index p xs))
 
-  -- each element changed by its index, the first of which is k
-  unfoldable pub changed : ℕ → (ℕ → A → A) → List A → List A
-  changed k f [] = []
-  changed k f (x ∷ xs) = f k x ∷ changed (suc k) f xs
+  -- whatever f, of the bound g, answers at an element, the test p answers too
+  abbrev pub AnswersAs : {F : Type 0} → Shared F (Bor A × Unit {0}) Bool → F → (A → Bool) → Type 0
+  AnswersAs g f p = (x : A) (b : Bool) → FnReturnsAt g f x b → b ≡ p x

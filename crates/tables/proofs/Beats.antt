@@ -1,12 +1,13 @@
 -- Whether a transaction is beaten is found in one pass over the records. Assumes nothing.
-use Prim.Native.Nat.{ℕ, ◌<◌, ◌≤◌}
+use Prim.Native.Nat.{ℕ, ◌<◌}
 use native.Mathlib.Omega.{arith}
-use mathlib.Core.Bool.{Bool, true, not, ◌&&◌, ◌||◌, and-eq-true_iff}
+use mathlib.Core.Bool.{Bool, true, false, not, ◌&&◌, ◌||◌, and-eq-true_iff}
 use mathlib.Core.List.{List, [], ◌∷◌, map}
 use mathlib.Core.Path.{◌∙◌, ◌≡◌, ap, refl, sym}
-use lib.Dec.{eqb, ltb}
+use lib.Dec.{ltb}
 use lib.ListN.{get_or}
-use borrow.Author.Tests.{eq-eqb, eqb-true, le-ltb, lt-ltb, ltb-true, ne_eqb}
+use borrow.Author.Tests.{eq-eqb, eqb-true, ltb-true, ne_eqb}
+use Rattle.std.specs.List.{list_any}
 use Rattle.terms.specs.declared.Row.{Row}
 use Rattle.terms.specs.declared.Rec.{Rec}
 use Rattle.terms.specs.Words.{committed, done, is_write, item, num, start, txn}
@@ -54,50 +55,21 @@ module _ (s : State) (t : ℕ) where
   beaten_pass = both_ways _ _ there back
 
 -- ---- the same by marks: a write of a marked item, by a transaction that committed after moment b
-unfoldable pub hits : List Row → List ℕ → ℕ → List ℕ → Bool
-hits rows marks b ps = any (λ p. is_write (unpack p) && eqb (get_or marks (item (unpack p)) 0) 1 && ltb b (done (row_of (used_rows rows) (txn (unpack p))))) ps
+abbrev pub hits : List Row → List Bool → ℕ → ℕ → Bool
+hits rows marks b p = is_write (unpack p) && get_or marks (item (unpack p)) false && ltb b (done (row_of (used_rows rows) (txn (unpack p))))
 
-module _ (rows : List Row) (recs : List ℕ) (t : ℕ) (marks : List ℕ) (mk : Marked marks recs t) (own : Row) (eo : own ≡ row_of (used_rows rows) t) where
+module _ (rows : List Row) (recs : List ℕ) (t : ℕ) (marks : List Bool) (mk : Marked marks recs t) (own : Row) (eo : own ≡ row_of (used_rows rows) t) where
   abbrev the_state : State
   the_state = used_of rows recs [] []
 
-  marked : (p : ℕ) → eqb (get_or marks (item (unpack p)) 0) 1 ≡ recorded the_state t (item (unpack p)) 2
+  marked : (p : ℕ) → get_or marks (item (unpack p)) false ≡ recorded the_state t (item (unpack p)) 2
   unfolding recorded
   marked p = mk.mark (item (unpack p)) (omega arith)
 
-  hits_beats : (ps : List ℕ) → hits rows marks (start own) ps ≡ beats the_state t (map unpack ps)
-  unfolding hits beats
+  hits_beats : (ps : List ℕ) → list_any (hits rows marks (start own)) ps ≡ beats the_state t (map unpack ps)
+  unfolding beats
   hits_beats [] = refl
   hits_beats (p ∷ ps) = λ j. is_write (unpack p) && marked p j && ltb (start (eo j)) (commit_of the_state (txn (unpack p))) || hits_beats ps j
 
-  pub hits-beaten : hits rows marks (start own) (used_recs recs) ≡ beaten the_state t
+  pub hits-beaten : list_any (hits rows marks (start own)) (used_recs recs) ≡ beaten the_state t
   hits-beaten = hits_beats (used_recs recs) ∙ sym (beaten_pass the_state t)
-
--- ---- one turn of the loop, by what the code has tested
-module _ (rows : List Row) (marks : List ℕ) (b p k : ℕ) (ek : k ≡ (unpack p).kind) where
-  pub hits_kind : (k ≡ 2 → ⊥) → (ps : List ℕ) → hits rows marks b (p ∷ ps) ≡ hits rows marks b ps
-  unfolding hits
-  hits_kind n ps = rw (ne_eqb (unpack p).kind 2 (λ e. n (ek ∙ e))) refl
-
-  module _ (w : k ≡ 2) (a : ℕ) (ei : a ≡ item (unpack p)) where
-    kind : is_write (unpack p) ≡ true
-    kind = eq-eqb (unpack p).kind 2 (sym ek ∙ w)
-
-    mark : {c : Bool} → eqb (get_or marks a 0) 1 ≡ c → eqb (get_or marks (item (unpack p)) 0) 1 ≡ c
-    mark e = ap {B = Bool} (λ i. eqb (get_or marks i 0) 1) (sym ei) ∙ e
-
-    pub hits-mark : (get_or marks a 0 ≡ 1 → ⊥) → (ps : List ℕ) → hits rows marks b (p ∷ ps) ≡ hits rows marks b ps
-    unfolding hits
-    hits-mark n ps = rw (kind, mark (ne_eqb (get_or marks a 0) 1 n)) refl
-
-    module _ (m : get_or marks a 0 ≡ 1) (u : ℕ) (eu : u ≡ txn (unpack p)) (r : Row) (er : r ≡ row_of (used_rows rows) u) where
-      commit : done (row_of (used_rows rows) (txn (unpack p))) ≡ done r
-      commit = ap (λ (n : ℕ). done (row_of (used_rows rows) n)) (sym eu) ∙ ap done (sym er)
-
-      pub hits-old : done r ≤ b → (ps : List ℕ) → hits rows marks b (p ∷ ps) ≡ hits rows marks b ps
-      unfolding hits
-      hits-old l ps = rw (kind, mark (eq-eqb _ _ m), commit, le-ltb b (done r) l) refl
-
-      pub hits-here : b < done r → (ps : List ℕ) → hits rows marks b (p ∷ ps) ≡ true
-      unfolding hits
-      hits-here l ps = rw (kind, mark (eq-eqb _ _ m), commit, lt-ltb b (done r) l) refl

@@ -7,17 +7,18 @@ use mathlib.Core.List.{List, [], ◌∷◌}
 use mathlib.Core.Logic.{◌⊎◌, inl, inr}
 use mathlib.Core.Path.{◌∙◌, ◌≡◌, ap, refl, subst, sym}
 use lib.Dec.{eqb, ltb}
+use Rattle.std.specs.Prelude.{Option, Some, unwrap_or}
 use borrow.Author.Tests.{eq-eqb, eqb-false, eqb-true, lt-ltb, ltb-false, ltb-true, ne_eqb, not-true}
 use Rattle.terms.specs.declared.Row.{Row}
 use Rattle.terms.specs.declared.Rec.{Rec}
+use Rattle.terms.specs.declared.Version.{Version}
 use Rattle.terms.specs.Words.{committed, done, is_write, item, num, row, txn, version}
 use Rattle.rules.specs.State.{State, is_rec, row_of, word_in, written}
 use Rattle.rules.specs.Versions.{base_of, installers, newest, version_at}
 use Rattle.laws.proofs.Lists.{◌∈◌, and_both, and_left, and_right, passed}
 use Rattle.laws.proofs.Rows.{Known, row_at}
 use Rattle.laws.proofs.Versions.{installers_in, installers_out, newest_in, newest-last, recorded_in, recorded_out, version-base, version-kept}
-use Rattle.tables.specs.declared.versions.Best.{Best}
-use Rattle.tables.specs.Best.{best, best_of, better, chosen, commit_in, none}
+use Rattle.tables.specs.Best.{Best, best, best_of, better, chosen, none, version_in}
 use Rattle.tables.proofs.Steps.{word_hit, word_skip}
 
 -- a row that is found and committed stands in the table under its number
@@ -46,40 +47,40 @@ module _ (rows : List Row) (i m : ℕ) where
   unfolding better
   better_other x b e = rw (e, better) refl
 
-  pub better_no : (x : Rec) (b : Best) → (is_write x && eqb (item x) i) ≡ true → (ltb (commit_in b) (at (txn x)) && ltb (at (txn x)) m) ≡ false → better rows i m x b ≡ b
+  pub better_no : (x : Rec) (b : Best) → (is_write x && eqb (item x) i) ≡ true → (ltb b.commit (at (txn x)) && ltb (at (txn x)) m) ≡ false → better rows i m x b ≡ b
   unfolding better
   better_no x b e f = rw (e, f, better) refl
 
-  pub better_yes : (x : Rec) (b : Best) → (is_write x && eqb (item x) i) ≡ true → (ltb (commit_in b) (at (txn x)) && ltb (at (txn x)) m) ≡ true → better rows i m x b ≡ best (at (txn x)) (txn x) x.word
+  pub better_yes : (x : Rec) (b : Best) → (is_write x && eqb (item x) i) ≡ true → (ltb b.commit (at (txn x)) && ltb (at (txn x)) m) ≡ true → better rows i m x b ≡ best (at (txn x)) (txn x) x.word
   unfolding better
   better_yes x b e f = rw (e, f, better) refl
 
   -- a turn takes the record or leaves the best as it is, which is then late enough
   data Turn (x : Rec) (b : Best) : Best → Type 0 where
-    took : Fits x → commit_in b < at (txn x) → Turn x b (best (at (txn x)) (txn x) x.word)
-    left : (Fits x → at (txn x) ≤ commit_in b) → Turn x b b
+    took : Fits x → b.commit < at (txn x) → Turn x b (best (at (txn x)) (txn x) x.word)
+    left : (Fits x → at (txn x) ≤ b.commit) → Turn x b b
 
   turn : (x : Rec) (b : Best) → Turn x b (better rows i m x b)
   turn x b = first (passed (is_write x && eqb (item x) i))
     where
-      second : (is_write x && eqb (item x) i) ≡ true → (ltb (commit_in b) (at (txn x)) && ltb (at (txn x)) m ≡ true) ⊎ (ltb (commit_in b) (at (txn x)) && ltb (at (txn x)) m ≡ false) → Turn x b (better rows i m x b)
+      second : (is_write x && eqb (item x) i) ≡ true → (ltb b.commit (at (txn x)) && ltb (at (txn x)) m ≡ true) ⊎ (ltb b.commit (at (txn x)) && ltb (at (txn x)) m ≡ false) → Turn x b (better rows i m x b)
       second e (inl f) =
           rw (better_yes x b e f)
-          (took (record { write = eqb-true _ _ (and_left _ _ e); item = eqb-true _ _ (and_right (is_write x) _ e); before = ltb-true _ _ (and_right (ltb (commit_in b) (at (txn x))) _ f) }) (ltb-true _ _ (and_left _ _ f)))
-      second e (inr f) = rw (better_no x b e f) (left (λ k. late (passed (ltb (commit_in b) (at (txn x)))) k))
+          (took (record { write = eqb-true _ _ (and_left _ _ e); item = eqb-true _ _ (and_right (is_write x) _ e); before = ltb-true _ _ (and_right (ltb b.commit (at (txn x))) _ f) }) (ltb-true _ _ (and_left _ _ f)))
+      second e (inr f) = rw (better_no x b e f) (left (λ k. late (passed (ltb b.commit (at (txn x)))) k))
         where
-          late : (ltb (commit_in b) (at (txn x)) ≡ true) ⊎ (ltb (commit_in b) (at (txn x)) ≡ false) → Fits x → at (txn x) ≤ commit_in b
+          late : (ltb b.commit (at (txn x)) ≡ true) ⊎ (ltb b.commit (at (txn x)) ≡ false) → Fits x → at (txn x) ≤ b.commit
           late (inl g) k = absurd (false≢true (sym f ∙ and_both _ _ g (lt-ltb _ _ k.before)))
           late (inr g) k = ltb-false _ _ g
 
       first : ((is_write x && eqb (item x) i) ≡ true) ⊎ ((is_write x && eqb (item x) i) ≡ false) → Turn x b (better rows i m x b)
-      first (inl e) = second e (passed (ltb (commit_in b) (at (txn x)) && ltb (at (txn x)) m))
+      first (inl e) = second e (passed (ltb b.commit (at (txn x)) && ltb (at (txn x)) m))
       first (inr e) = rw (better_other x b e) (left (λ k. absurd (false≢true (sym e ∙ and_both _ _ (eq-eqb _ _ k.write) (eq-eqb _ _ k.item)))))
 
   -- where the pass over xs leads from b: it stays, or there is a later one, with its word
   data Ended (xs : List Rec) (b : Best) : Best → Type 0 where
     stays : Ended xs b b
-    later : (w : ℕ) → commit_in b < at w → at w < m → (x : Rec) → x ∈ xs → Fits x → txn x ≡ w → Ended xs b (best (at w) w (word_in w i 2 xs))
+    later : (w : ℕ) → b.commit < at w → at w < m → (x : Rec) → x ∈ xs → Fits x → txn x ≡ w → Ended xs b (best (at w) w (word_in w i 2 xs))
 
   ended : (xs : List Rec) (b : Best) → Ended xs b (best_of rows i m xs b)
   unfolding best_of
@@ -106,38 +107,33 @@ module _ (rows : List Row) (i m : ℕ) where
           let u = simp and-eq-true_iff at t in
           let e = eqb-true (txn x) w u.0.0 in
           let l : at (txn x) < m = rw e h in
-          let o : at (txn x) ≤ commit_in b = f (record { write = eqb-true _ _ u.1; item = eqb-true _ _ u.0.1; before = l }) in
+          let o : at (txn x) ≤ b.commit = f (record { write = eqb-true _ _ u.1; item = eqb-true _ _ u.0.1; before = l }) in
           omega (arith, ap at e))) (later w g h y (Memᴰ.tail my) ky ey)
 
   -- and none that fits is later than it
-  last : (xs : List Rec) (b : Best) → (commit_in b ≤ commit_in (best_of rows i m xs b)) × ((x : Rec) → x ∈ xs → Fits x → at (txn x) ≤ commit_in (best_of rows i m xs b))
+  last : (xs : List Rec) (b : Best) → (b.commit ≤ (best_of rows i m xs b).commit) × ((x : Rec) → x ∈ xs → Fits x → at (txn x) ≤ (best_of rows i m xs b).commit)
   unfolding best_of
   last [] b = (omega arith, λ x k f. elim k [ ])
   last (y ∷ ys) b = let r = last ys (better rows i m y b) in go (best_of rows i m ys (better rows i m y b)) (turn y b) r.0 r.1
     where
-      go : {c : Best} (d : Best) → Turn y b c → commit_in c ≤ commit_in d → ((x : Rec) → x ∈ ys → Fits x → at (txn x) ≤ commit_in d)
-          → (commit_in b ≤ commit_in d) × ((x : Rec) → x ∈ (y ∷ ys) → Fits x → at (txn x) ≤ commit_in d)
+      go : {c : Best} (d : Best) → Turn y b c → c.commit ≤ d.commit → ((x : Rec) → x ∈ ys → Fits x → at (txn x) ≤ d.commit)
+          → (b.commit ≤ d.commit) × ((x : Rec) → x ∈ (y ∷ ys) → Fits x → at (txn x) ≤ d.commit)
       go d (took k l) h f = (omega arith, λ x n g. pick x n g)
         where
-          pick : (x : Rec) → x ∈ (y ∷ ys) → Fits x → at (txn x) ≤ commit_in d
+          pick : (x : Rec) → x ∈ (y ∷ ys) → Fits x → at (txn x) ≤ d.commit
           pick x (Memᴰ.head e) g = omega (arith, ap (λ (z : Rec). at (txn z)) e)
           pick x (Memᴰ.tail n) g = f x n g
       go d (left o) h f = (h, λ x n g. pick x n g)
         where
-          pick : (x : Rec) → x ∈ (y ∷ ys) → Fits x → at (txn x) ≤ commit_in d
+          pick : (x : Rec) → x ∈ (y ∷ ys) → Fits x → at (txn x) ≤ d.commit
           pick x (Memᴰ.head e) g = omega (arith, ap (λ (z : Rec). at (txn z)) e, o (rw e at g))
           pick x (Memᴰ.tail n) g = f x n g
 
 -- ---- the version
 
-chosen-kept : (s : State) (i c w v : ℕ) → 0 < c → chosen s i (best c w v) ≡ version w v
-unfolding chosen
-chosen-kept s i zero w v h = absurd (omega arith)
-chosen-kept s i (suc c) w v h = refl
-
-chosen-base : (s : State) (i : ℕ) → chosen s i none ≡ base_of s i
-unfolding chosen
-chosen-base s i = refl
+pub version_in-some : (c w v : ℕ) → 0 < c → version_in (best c w v) ≡ Some (version w v)
+version_in-some zero w v h = absurd (omega arith)
+version_in-some (suc c) w v h = refl
 
 module _ (s : State) (k : Known s) (i m : ℕ) where
   abbrev newest_one : Row
@@ -151,7 +147,7 @@ module _ (s : State) (k : Known s) (i m : ℕ) where
       let e : done (row_of s.rows (txn v.0)) ≡ done r = ap (λ (t : ℕ). done (row_of s.rows t)) v.2 ∙ ap done (row_at s k u.0) in
       (v.0, v.1, record { write = v.4; item = v.3; before = omega (arith, u.2) }, e)
 
-  pub best-version : chosen s i (best_of s.rows i m s.recs none) ≡ version_at s i m
+  best-version : chosen s i (best_of s.rows i m s.recs none) ≡ version_at s i m
   best-version = go (ended s.rows i m s.recs none) (last s.rows i m s.recs none).1
     where
       empty : ((x : Rec) → x ∈ s.recs → Fits s.rows i m x → done (row_of s.rows (txn x)) ≤ 0) → (newest_one ≡ row 0 0 0) ⊎ (newest_one ∈ installers s i m) → num newest_one ≡ 0
@@ -172,21 +168,17 @@ module _ (s : State) (k : Known s) (i m : ℕ) where
           let n : num newest_one ≡ num r = ap num (k.distinct u.0 u.1 v.0 v.1 d) in
           version-kept s i m (k.positive u.0) ∙ ap (λ (t : ℕ). version t (written s t i)) n
 
-      go : {d : Best} → Ended s.rows i m s.recs none d → ((x : Rec) → x ∈ s.recs → Fits s.rows i m x → done (row_of s.rows (txn x)) ≤ commit_in d) → chosen s i d ≡ version_at s i m
-      go stays f = chosen-base s i ∙ sym (version-base s i m (empty f (newest_in (installers s i m))))
+      go : {d : Best} → Ended s.rows i m s.recs none d → ((x : Rec) → x ∈ s.recs → Fits s.rows i m x → done (row_of s.rows (txn x)) ≤ d.commit) → chosen s i d ≡ version_at s i m
+      go stays f = sym (version-base s i m (empty f (newest_in (installers s i m))))
       go (later w l h x mx fits e) f =
           let r = row_in s.rows w l in
           let c : committed (row_of s.rows w) ≡ true = ap not (ne_eqb (done (row_of s.rows w)) 0 (λ z. omega arith)) in
           let mi = installers_in s i m r.0 c h (recorded_in s (num (row_of s.rows w)) i 2 mx (e ∙ sym r.1) fits.item fits.write) in
-          chosen-kept s i (done (row_of s.rows w)) w (written s w i) l
+          ap (λ (o : Option Version). unwrap_or o (base_of s i)) (version_in-some (done (row_of s.rows w)) w (written s w i) l)
           ∙ ap (λ (t : ℕ). version t (written s t i)) (sym r.1)
           ∙ sym (some r.0 l mi f (newest_in (installers s i m)))
 
 -- ---- after the pass
-module _ (s : State) (k : Known s) (i m : ℕ) (b : Best) (e : b ≡ best_of s.rows i m s.recs none) where
-  pub best-base : commit_in b ≡ 0 → base_of s i ≡ version_at s i m
-  unfolding chosen
-  best-base z = ap (λ (c : ℕ). chosen s i (best c b.writer.0 b.value)) (sym z) ∙ ap (chosen s i) e ∙ best-version s k i m
-
-  pub best-kept : (commit_in b ≡ 0 → ⊥) → version b.writer.0 b.value ≡ version_at s i m
-  best-kept n = sym (chosen-kept s i (commit_in b) b.writer.0 b.value (omega arith)) ∙ ap (chosen s i) e ∙ best-version s k i m
+module _ (s : State) (k : Known s) (i m : ℕ) where
+  pub best-found : (o : Option Version) → o ≡ version_in (best_of s.rows i m s.recs none) → unwrap_or o (base_of s i) ≡ version_at s i m
+  best-found o e = ap (λ (o : Option Version). unwrap_or o (base_of s i)) e ∙ best-version s k i m

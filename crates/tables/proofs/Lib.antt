@@ -1,6 +1,6 @@
 pub mod Scanning
+pub mod Chains
 pub mod Steps
-pub mod Mapped
 pub mod Best
 pub mod Turns
 pub mod Marks

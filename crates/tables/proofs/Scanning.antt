@@ -22,10 +22,6 @@ module _ {A B : Type 0} {p : A → Bool} {xs : List A} where
     scan_next d g l e h =
         record { going = go_next s.going d (λ ys. g (until p ys)) l (λ ys. ap (λ (b : Bool). f (stop b (get_or xs j d) (until p ys))) e ∙ h (until p ys)) }
 
-    -- whatever the rest is, the answer is w
-    pub scan_here : (d : A) {w : B} → j < length xs → p (get_or xs j d) ≡ false → ((ys : List A) → f (get_or xs j d ∷ ys) ≡ w) → w ≡ v
-    scan_here d l e h = go_here s.going d l (λ ys. ap (λ (b : Bool). f (stop b (get_or xs j d) (until p ys))) e ∙ h (until p ys))
-
     -- the element at j is unused
     pub scan_stop : (d : A) → j < length xs → p (get_or xs j d) ≡ true → f [] ≡ v
     scan_stop d l e = go_here s.going d l (λ ys. ap (λ (b : Bool). f (stop b (get_or xs j d) (until p ys))) e)

@@ -1,7 +1,10 @@
--- `lists::clear_from` meets its contract: `Clearing`. Assumes nothing.
+-- `lists::clear_from` meets its contract. Assumes nothing.
 use Rattle.std.proofs.Common.{rules}
-use Rattle.lists.proofs.Loops.{clear_next}
+use Rattle.lists.proofs.Loops.{clear_filled, clear_past}
 use Rattle.lists.proofs.clear_from.Goals as goal
 
-pub loop-i-preserved : goal.loop-i-preserved
-loop-i-preserved c = clear_next c.loop-i.invariant (search rules)
+pub returns-then-from-table : goal.returns-then-from-table
+returns-then-from-table g c = clear_filled _ _ _ _ _ _ c.if-from-table.true c.fill_with.ensures.len (λ x f r. search rules) c.fill_with.ensures.ran.1
+
+pub returns-else-from-table : goal.returns-else-from-table
+returns-else-from-table g c = clear_past _ _ _ c.if-from-table.false

@@ -1,21 +1,14 @@
--- `tables::records::has_rec` meets its contract: `Scanning`. Assumes nothing.
-use Rattle.std.proofs.Common.{rules, sym, ◌∙◌}
-use borrow.Author.Tests.{eq-eqb, ne_eqb}
-use Rattle.rules.specs.State.{recorded}
-use Rattle.tables.proofs.Scanning.{scan_done, scan_here, scan_next, scan_stop}
-use Rattle.tables.proofs.Steps.{recorded_hit, recorded_skip}
+-- `tables::records::has_rec` meets its contract. Assumes nothing.
+use Rattle.std.proofs.Common.{rules, tests, eqb, ◌∙◌}
+use Rattle.std.proofs.lemmas.Iterator.Search.{any_from_yields_List}
+use Rattle.rules.specs.Raw.{unpack}
+use Rattle.rules.specs.State.{is_rec}
+use Rattle.tables.proofs.Chains.{recorded_listed, used_road}
 use Rattle.tables.proofs.records.has_rec.Goals as goal
 
-pub returns-then-p-eq0 : goal.returns-then-p-eq0
-unfolding recorded
-returns-then-p-eq0 c = scan_stop c.loop-j.invariant 0 (search rules) (eq-eqb _ _ c.if-p-eq0.true)
-
-pub returns-then-is_rec : goal.returns-then-is_rec
-returns-then-is_rec c = scan_here c.loop-j.invariant 0 (search rules) (ne_eqb _ _ c.if-p-eq0.false) (recorded_hit _ _ _ _ (sym c.is_rec.ensures ∙ c.if-is_rec.true))
-
-pub loop-j-preserved : goal.loop-j-preserved
-loop-j-preserved c = scan_next c.loop-j.invariant 0 _ (search rules) (ne_eqb _ _ c.if-p-eq0.false) (recorded_skip _ _ _ _ (sym c.is_rec.ensures ∙ c.if-is_rec.false))
-
 pub returns : goal.returns
-unfolding recorded
-returns c = scan_done c.loop-j.invariant (search rules)
+returns c =
+    any_from_yields_List (λ p. is_rec c.args.t.0 c.args.i.0 c.args.k (unpack p)) _ _ _ c.any.ensures.ran
+    (used_road (λ p. eqb p 0) _ c.args.recs.now c.iter.ensures.rest c.take_while.ensures.source c.take_while.ensures.closure c.take_while.ensures.done (λ x b q k. search (rules, tests)))
+    (λ x b q k. search (rules, tests))
+    ∙ recorded_listed _ _ _ _

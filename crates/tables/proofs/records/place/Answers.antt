@@ -1,13 +1,15 @@
--- `tables::records::place` meets its contract: the first index that stops. Assumes nothing.
-use Rattle.std.proofs.Common.{rules, sym, ◌∙◌}
-use Rattle.lists.proofs.Scans.{first_done, first_here, first_next}
+-- `tables::records::place` meets its contract. Assumes nothing.
+use Rattle.std.proofs.Common.{rules, tests, ap, ◌∙◌}
+use Rattle.std.specs.Prelude.{length, unwrap_or}
+use Rattle.std.proofs.lemmas.Iterator.{YieldsList-from_slice}
+use Rattle.std.proofs.lemmas.Iterator.Search.{position_from_yields_List}
+use Rattle.bridge.specs.Whole.{stops_at}
+use Rattle.lists.proofs.Firsts.{first_found}
 use Rattle.tables.proofs.records.place.Goals as goal
 
-pub returns-then-stops : goal.returns-then-stops
-returns-then-stops c = first_here _ c.loop-j.invariant 0 (search rules) (sym c.stops.ensures ∙ c.if-stops.true)
-
-pub loop-j-preserved : goal.loop-j-preserved
-loop-j-preserved c = first_next _ c.loop-j.invariant 0 (search rules) (sym c.stops.ensures ∙ c.if-stops.false)
-
 pub returns : goal.returns
-returns c = first_done _ c.loop-j.invariant (search rules)
+unfolding stops_at
+returns c =
+    c.unwrap_or.ensures
+    ∙ ap (λ o. unwrap_or o (length c.args.recs.now)) (position_from_yields_List (stops_at c.args.key) _ _ _ c.position.ensures.ran (YieldsList-from_slice c.args.recs.now c.iter.ensures.rest) (λ x b q k. search (rules, tests)))
+    ∙ first_found _ _

@@ -1,25 +1,16 @@
--- `tables::records::word_in` meets its contract: `Scanning`. Assumes nothing.
-use Rattle.std.proofs.Common.{rules, map, sym, ◌∙◌}
-use borrow.Author.Tests.{eq-eqb, ne_eqb}
-use Rattle.rules.specs.State.{word_in}
+-- `tables::records::word_in` meets its contract. Assumes nothing.
+use Rattle.std.proofs.Common.{rules, tests, eqb, ap, ◌≡◌, ◌∙◌}
+use Rattle.std.specs.Prelude.{option_map, unwrap_or}
+use Rattle.std.proofs.lemmas.Iterator.Search.{find_from_yields_List}
 use Rattle.rules.specs.Raw.{unpack}
-use Rattle.tables.proofs.Scanning.{scan_done, scan_here, scan_next, scan_stop}
-use Rattle.tables.proofs.Steps.{word_hit, word_skip}
+use Rattle.rules.specs.State.{is_rec}
+use Rattle.tables.proofs.Chains.{used_road, word_found}
 use Rattle.tables.proofs.records.word_in.Goals as goal
 
-pub returns-then-p-eq0 : goal.returns-then-p-eq0
-unfolding word_in
-returns-then-p-eq0 c = scan_stop c.loop-j.invariant 0 (search rules) (eq-eqb _ _ c.if-p-eq0.true)
-
-pub returns-then-is_rec : goal.returns-then-is_rec
-returns-then-is_rec c =
-    c.word_of.ensures
-    ∙ scan_here c.loop-j.invariant 0 (search rules) (ne_eqb _ _ c.if-p-eq0.false) (λ ps. word_hit _ _ _ (unpack _) (sym c.is_rec.ensures ∙ c.if-is_rec.true) (map unpack ps))
-
-pub loop-j-preserved : goal.loop-j-preserved
-loop-j-preserved c =
-    scan_next c.loop-j.invariant 0 _ (search rules) (ne_eqb _ _ c.if-p-eq0.false) (λ ps. word_skip _ _ _ (unpack _) (sym c.is_rec.ensures ∙ c.if-is_rec.false) (map unpack ps))
-
 pub returns : goal.returns
-unfolding word_in
-returns c = scan_done c.loop-j.invariant (search rules)
+returns c =
+    let h = find_from_yields_List (λ p. is_rec c.args.t.0 c.args.i.0 c.args.k (unpack p)) _ _ c.find.result c.find.ensures.ran
+    (used_road (λ p. eqb p 0) _ c.args.recs.now c.iter.ensures.rest c.take_while.ensures.source c.take_while.ensures.closure c.take_while.ensures.done (λ x b q k. search (rules, tests)))
+    (λ x b q k. search (rules, tests)) in
+    let m : c.map_or.result ≡ unwrap_or (option_map (λ p. (unpack p).word) (option_map (λ y. y.now) c.find.result)) 0 = search rules in
+    m ∙ ap (λ o. unwrap_or (option_map (λ p. (unpack p).word) o) 0) h ∙ word_found _ _ _ _

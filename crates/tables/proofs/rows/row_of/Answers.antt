@@ -1,22 +1,16 @@
--- `tables::rows::row_of` meets its contract: `Scanning`. Assumes nothing.
-use Rattle.std.proofs.Common.{rules, ◌∙◌}
-use borrow.Author.Tests.{eq-eqb, ne_eqb}
-use Rattle.rules.specs.State.{row_of}
+-- `tables::rows::row_of` meets its contract. Assumes nothing.
+use Rattle.std.proofs.Common.{rules, tests, eqb, ap, ◌≡◌, ◌∙◌}
+use Rattle.std.specs.Prelude.{option_map, unwrap_or}
+use Rattle.std.proofs.lemmas.Iterator.Search.{find_from_yields_List}
+use Rattle.terms.specs.Words.{num}
 use Rattle.rules.specs.Raw.{zero_row}
-use Rattle.tables.proofs.Scanning.{scan_done, scan_here, scan_next, scan_stop}
-use Rattle.tables.proofs.Steps.{row_hit, row_skip}
+use Rattle.tables.proofs.Chains.{used_road, row_found}
 use Rattle.tables.proofs.rows.row_of.Goals as goal
 
-pub returns-then-n-eq0 : goal.returns-then-n-eq0
-unfolding row_of
-returns-then-n-eq0 c = c.zero_row.ensures ∙ scan_stop c.loop-j.invariant zero_row (search rules) (eq-eqb _ _ c.if-n-eq0.true)
-
-pub returns-then-n-t : goal.returns-then-n-t
-returns-then-n-t c = scan_here c.loop-j.invariant zero_row (search rules) (ne_eqb _ _ c.if-n-eq0.false) (row_hit _ _ c.if-n-t.true)
-
-pub loop-j-preserved : goal.loop-j-preserved
-loop-j-preserved c = scan_next c.loop-j.invariant zero_row _ (search rules) (ne_eqb _ _ c.if-n-eq0.false) (row_skip _ _ c.if-n-t.false)
-
 pub returns : goal.returns
-unfolding row_of
-returns c = c.zero_row-2.ensures ∙ scan_done c.loop-j.invariant (search rules)
+returns c =
+    let h = find_from_yields_List (λ r. eqb (num r) c.args.t.0) _ _ c.find.result c.find.ensures.ran
+    (used_road (λ r. eqb (num r) 0) _ c.args.rows.now c.iter.ensures.rest c.take_while.ensures.source c.take_while.ensures.closure c.take_while.ensures.done (λ x b q k. search (rules, tests)))
+    (λ x b q k. search (rules, tests)) in
+    let m : c.unwrap_or_default.result ≡ unwrap_or (option_map (λ y. y.now) c.find.result) zero_row = search rules in
+    m ∙ ap (λ o. unwrap_or o zero_row) h ∙ row_found _ _

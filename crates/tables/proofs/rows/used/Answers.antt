@@ -1,16 +1,15 @@
--- `tables::rows::used` meets its contract: the first index that is unused. Assumes nothing.
-use Rattle.std.proofs.Common.{rules, sym, ◌∙◌}
-use borrow.Author.Tests.{eq-eqb, ne_eqb}
-use Rattle.rules.specs.Raw.{zero_row}
-use Rattle.lists.proofs.Scans.{first_done, first_here, first_next}
+-- `tables::rows::used` meets its contract. Assumes nothing.
+use Rattle.std.proofs.Common.{rules, tests, eqb, ap, sym, ◌∙◌}
+use Rattle.std.specs.Prelude.{length, unwrap_or}
+use Rattle.std.proofs.lemmas.Iterator.{YieldsList-from_slice}
+use Rattle.std.proofs.lemmas.Iterator.Search.{position_from_yields_List}
+use Rattle.terms.specs.Words.{num}
 use Rattle.lists.proofs.Untils.{length-until}
+use Rattle.lists.proofs.Firsts.{first_found}
 use Rattle.tables.proofs.rows.used.Goals as goal
 
-pub returns-then-n-eq0 : goal.returns-then-n-eq0
-returns-then-n-eq0 c = first_here _ c.loop-j.invariant zero_row (search rules) (eq-eqb _ _ c.if-n-eq0.true) ∙ sym (length-until _ _)
-
-pub loop-j-preserved : goal.loop-j-preserved
-loop-j-preserved c = first_next _ c.loop-j.invariant zero_row (search rules) (ne_eqb _ _ c.if-n-eq0.false)
-
 pub returns : goal.returns
-returns c = first_done _ c.loop-j.invariant (search rules) ∙ sym (length-until _ _)
+returns c =
+    c.unwrap_or.ensures
+    ∙ ap (λ o. unwrap_or o (length c.args.rows.now)) (position_from_yields_List (λ r. eqb (num r) 0) _ _ _ c.position.ensures.ran (YieldsList-from_slice c.args.rows.now c.iter.ensures.rest) (λ x b q k. search (rules, tests)))
+    ∙ first_found (λ r. eqb (num r) 0) c.args.rows.now ∙ sym (length-until _ _)

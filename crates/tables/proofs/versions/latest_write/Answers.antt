@@ -1,33 +1,35 @@
--- `tables::versions::latest_write` meets its contract: `Scanning`, with the best so far. Assumes nothing.
-use Rattle.std.proofs.Common.{rules, sym, ◌∙◌}
+-- `tables::versions::latest_write` meets its contract: `Finding`. Assumes nothing.
+use Rattle.std.proofs.Common.{rules, tests}
 use borrow.Author.Tests.{eq-eqb, ne_eqb}
-use Rattle.tables.specs.Best.{best_of}
-use Rattle.tables.proofs.Scanning.{scan_done, scan_next, scan_stop}
-use Rattle.tables.proofs.Turns.{best_early, best_late, best_other, best_taken}
+use Rattle.tables.proofs.Turns.{find_done, find_no, find_other, find_start, find_stop, find_yes}
+use Rattle.tables.proofs.versions.latest_write.Goals.{then-is_write+then-eq+then-lt+then-lt-2, then-is_write+then-eq+else-lt, else-lt-via-then-lt+else-lt-2, else-lt-via-else-lt, else-is_write, else-is_write-via-then-is_write+else-eq, else-is_write-via-else-is_write}
 use Rattle.tables.proofs.versions.latest_write.Goals as goal
 
+pub loop-p-init : goal.loop-p-init
+loop-p-init c = find_start _ _ _ _
+
 pub returns-then-p-eq0 : goal.returns-then-p-eq0
-unfolding best_of
-returns-then-p-eq0 c = scan_stop c.loop-j.invariant 0 (search rules) (eq-eqb _ _ c.if-p-eq0.true)
+returns-then-p-eq0 c = find_stop c.loop-p.invariant c.loop-p-test.true (eq-eqb _ _ c.if-p-eq0.true)
 
-pub loop-j-preserved-then-c-before : goal.loop-j-preserved-then-c-before
-loop-j-preserved-then-c-before c =
-    scan_next c.loop-j.invariant 0 _ (search rules) (ne_eqb _ _ c.if-p-eq0.false)
-    (best_taken _ _ _ _ _ c.txn_of-t.result c.row_of-r.result (sym c.is_write_of.ensures ∙ c.if-is_write_of.true) c.txn_of-t.ensures c.row_of-r.ensures c.if-commit-c.true c.if-c-before.true _ c.word_of-value.ensures)
-
-pub loop-j-preserved-else-c-before : goal.loop-j-preserved-else-c-before
-loop-j-preserved-else-c-before c =
-    scan_next c.loop-j.invariant 0 _ (search rules) (ne_eqb _ _ c.if-p-eq0.false)
-    (best_late _ _ _ _ _ c.txn_of-t.result c.row_of-r.result (sym c.is_write_of.ensures ∙ c.if-is_write_of.true) c.txn_of-t.ensures c.row_of-r.ensures c.if-commit-c.true c.if-c-before.false)
-
-pub loop-j-preserved-else-commit-c : goal.loop-j-preserved-else-commit-c
-loop-j-preserved-else-commit-c c =
-    scan_next c.loop-j.invariant 0 _ (search rules) (ne_eqb _ _ c.if-p-eq0.false)
-    (best_early _ _ _ _ _ c.txn_of-t.result c.row_of-r.result (sym c.is_write_of.ensures ∙ c.if-is_write_of.true) c.txn_of-t.ensures c.row_of-r.ensures c.if-commit-c.false)
-
-pub loop-j-preserved : goal.loop-j-preserved
-loop-j-preserved c = scan_next c.loop-j.invariant 0 _ (search rules) (ne_eqb _ _ c.if-p-eq0.false) (best_other _ _ _ _ _ (sym c.is_write_of.ensures ∙ c.if-is_write_of.false))
+pub loop-p-preserved : goal.loop-p-preserved
+loop-p-preserved c =
+    let s = c.loop-p.invariant in
+    let l = c.loop-p-test.true in
+    let u = ne_eqb _ _ c.if-p-eq0.false in
+    elim c.if-is_write.branch [
+      | then-is_write+then-eq+then-lt+then-lt-2 w ↦ rw (w.latest-is, w.found-is)
+          (find_yes s l u (search (rules, tests)) _ w.txn_of-writer.ensures _ w.row_of.ensures (search (rules, tests)) (search (rules, tests)) _ w.word_of.ensures)
+      | then-is_write+then-eq+else-lt w ↦ rw (w.latest-is, w.found-is)
+          (elim w.else-lt.branch [
+            | else-lt-via-then-lt+else-lt-2 w' ↦ find_no s l u (search (rules, tests)) _ w.txn_of-writer.ensures _ w.row_of.ensures (search (rules, tests))
+            | else-lt-via-else-lt w' ↦ find_no s l u (search (rules, tests)) _ w.txn_of-writer.ensures _ w.row_of.ensures (search (rules, tests))
+          ])
+      | else-is_write w ↦ rw (w.latest-is, w.found-is)
+          (elim w.else-is_write.branch [
+            | else-is_write-via-then-is_write+else-eq w' ↦ find_other s l u (search (rules, tests))
+            | else-is_write-via-else-is_write w' ↦ find_other s l u (search (rules, tests))
+          ])
+    ]
 
 pub returns : goal.returns
-unfolding best_of
-returns c = scan_done c.loop-j.invariant (search rules)
+returns c = find_done c.loop-p.invariant c.loop-p-test.false
