@@ -8,7 +8,8 @@ use mathlib.Core.List.{List}
 use mathlib.Core.Logic.{◌⊎◌, inl, inr}
 use mathlib.Core.Path.{◌≡◌, refl, sym, ap, subst, ◌∙◌}
 use lib.Dec.{eqb, ltb}
-use lib.ListN.{length, get_or, set, drop, take, replicate, length-set, length-drop, length-replicate}
+use lib.ListN.{length, get_or, set, drop, take, replicate, length-set, length-replicate}
+use Rattle.std.proofs.lemmas.List.{drop-drop}
 use lib.Seq.{get_or-set_same, get_or-set_other}
 use borrow.Author.Tests.{eq-eqb, ne_eqb, lt-ltb, le-ltb, ltb-true}
 use Rattle.rules.specs.Lists.{any}
@@ -37,19 +38,18 @@ touch_by w rs ps i j = met_by w (marked w rs ps) (block rs ps i) j
 abbrev pub linked : ℕ → List Row → List ℕ → ℕ → ℕ → Bool
 linked w rs ps i j = (ltb j i && (touch w rs ps i j && not (over rs j i))) || (ltb i j && (touch_by w rs ps j i || (touch w rs ps j i && over rs i j)))
 
--- the first a rows are drawn, and their records are those before k. `before` has only rows that ended before whatever follows
-pub record Drawing (w n : ℕ) (rs : List Row) (ps tab ends g : List ℕ) (before k a : ℕ) : Type 0 where
+-- the first a rows are drawn, and `rest` is left of the records. `before` has only rows that ended before whatever follows
+pub record Drawing (w n : ℕ) (rs : List Row) (ps tab ends g rest : List ℕ) (before a : ℕ) : Type 0 where
   pub tab-len : length tab ≡ w + w
   pub ends_len : length ends ≡ n
   pub g_len : length g ≡ n
-  pub place : k ≡ begin rs ps a
-  pub most : k ≤ length ps
+  pub place : rest ≡ drop (begin rs ps a) ps
   pub index : (e j : ℕ) → has tab e j ≡ (ended rs a j && marked w rs ps e j)
   pub commits : (j : ℕ) → ended rs a j ≡ true → get_or ends j 0 ≡ done (at rs j)
   pub early : Rising rs → (j : ℕ) → member before j ≡ true → (i : ℕ) → a ≤ i → i < used_count rs → over rs j i ≡ true
   pub is : Rising rs → (i j : ℕ) → has g i j ≡ ((ended rs a i && ended rs a j) && linked w rs ps i j)
 
-pub draw_none : (w n : ℕ) (rs : List Row) (ps : List ℕ) {tab ends g : List ℕ} → tab ≡ replicate (w + w) 0 → length ends ≡ n → g ≡ replicate n 0 → Drawing w n rs ps tab ends g 0 0 0
+pub draw_none : (w n : ℕ) (rs : List Row) (ps : List ℕ) {tab ends g : List ℕ} → tab ≡ replicate (w + w) 0 → length ends ≡ n → g ≡ replicate n 0 → Drawing w n rs ps tab ends g ps 0 0
 unfolding begin
 draw_none w n rs ps {tab} {ends} {g} zt le zg =
     record {
@@ -57,41 +57,35 @@ draw_none w n rs ps {tab} {ends} {g} zt le zg =
       ends_len = le;
       g_len = ap length zg ∙ length-replicate {A = ℕ} n 0;
       place = refl;
-      most = omega arith;
       index = λ e j. ap (λ (t : List ℕ). has t e j) zt ∙ has_zeros (w + w) e j ∙ sym (ap (λ (b : Bool). b && marked w rs ps e j) (placed-zero committed rs j));
       commits = λ j h. absurd (false≢true (sym (placed-zero committed rs j) ∙ h));
       early = λ r j m. absurd (false≢true (sym (member-zero j) ∙ m));
       is = λ r i j. ap (λ (t : List ℕ). has t i j) zg ∙ has_zeros n i j ∙ sym (ap (λ (b : Bool). (b && ended rs 0 j) && linked w rs ps i j) (placed-zero committed rs i));
     }
 
-module _ {w n : ℕ} {rs : List Row} {ps tab ends g : List ℕ} {before k a : ℕ} (s : Drawing w n rs ps tab ends g before k a) where
+module _ {w n : ℕ} {rs : List Row} {ps tab ends g rest : List ℕ} {before a : ℕ} (s : Drawing w n rs ps tab ends g rest before a) where
   begin-next : begin rs ps (suc a) ≡ begin rs ps a + first_index (foreign (num (at rs a))) (drop (begin rs ps a) ps)
   unfolding begin
   begin-next = refl
 
-  -- the records of the row at a
-  module _ {t : ℕ} {part : List ℕ} {r : ℕ} (et : t ≡ num (at rs a)) (ep : part ≡ take (length ps - k) (drop k ps)) (er : r ≡ first_index (foreign t) part) where
-    rest : part ≡ drop (begin rs ps a) ps
-    rest = ep ∙ part_end k ps s.most ∙ ap (λ (n : ℕ). drop n ps) s.place
+  -- the r records of the row at a, and what is left after them
+  module _ {t r : ℕ} {rest' : List ℕ} (et : t ≡ num (at rs a)) (er : r ≡ first_index (foreign t) rest) (next : rest' ≡ take (length rest - r) (drop r rest)) where
+    place_next : rest' ≡ drop (begin rs ps (a + 1)) ps
+    place_next =
+        next ∙ part_end r rest (omega (arith, er, first_most (foreign t) rest)) ∙ ap (drop r) s.place ∙ drop-drop r (begin rs ps a) ps
+        ∙ ap (λ (k : ℕ). drop k ps) ((λ q. begin rs ps a + er q) ∙ (λ q. begin rs ps a + first_index (foreign (et q)) (s.place q)) ∙ sym begin-next ∙ ap (begin rs ps) (sym (add-one a)))
 
-    place_next : k + r ≡ begin rs ps (a + 1)
-    place_next = (λ q. s.place q + er q) ∙ (λ q. begin rs ps a + first_index (foreign (et q)) (rest q)) ∙ sym begin-next ∙ ap (begin rs ps) (sym (add-one a))
-
-    pub most_next : k + r ≤ length ps
-    most_next = omega (arith, s.most, er, first_most (foreign t) part, ap length (ep ∙ part_end k ps s.most), length-drop k ps)
-
-    mine : front t part ≡ block rs ps a
-    mine = λ q. front (et q) (rest q)
+    mine : front t rest ≡ block rs ps a
+    mine = λ q. front (et q) (s.place q)
 
     -- an active row
-    pub draw_skip : committed (at rs a) ≡ false → Drawing w n rs ps tab ends g before (k + r) (a + 1)
+    pub draw_skip : committed (at rs a) ≡ false → Drawing w n rs ps tab ends g rest' before (a + 1)
     draw_skip c =
         record {
           tab-len = s.tab-len;
           ends_len = s.ends_len;
           g_len = s.g_len;
           place = place_next;
-          most = most_next;
           index = λ e j. s.index e j ∙ ap (λ (b : Bool). b && marked w rs ps e j) (sym (skip j));
           commits = λ j h. s.commits j (sym (skip j) ∙ h);
           early = λ ρ j m i l. s.early ρ j m i (omega arith);
@@ -103,7 +97,7 @@ module _ {w n : ℕ} {rs : List Row} {ps tab ends g : List ℕ} {before k a : �
 
     -- a committed one: x and y are the rows that it meets, and all the ones known to have ended before its start
     module _ {d m : ℕ} {new g' : List ℕ} (x y all : ℕ) (c : committed (at rs a) ≡ true) (la : a < n) (used : a < used_count rs) (ed : d ≡ done (at rs a)) (em : m ≡ start (at rs a))
-        (met : Met w a t part tab new r x y) (past : (j : ℕ) → member all j ≡ (member before j || (member x j && ltb (get_or (set ends a d) j 0) m))) (dr : Drawn x y all a g g') where
+        (met : Met w a t rest tab new r x y) (past : (j : ℕ) → member all j ≡ (member before j || (member x j && ltb (get_or (set ends a d) j 0) m))) (dr : Drawn x y all a g g') where
       self : ended rs (a + 1) a ≡ true
       self = placed_self committed rs a ∙ c
 
@@ -111,7 +105,7 @@ module _ {w n : ℕ} {rs : List Row} {ps tab ends g : List ℕ} {before k a : �
       other j d = placed_other committed rs a j d
 
       -- what is met, of the rows before
-      met_is : (f : Bool → ℕ → Bool) → ((p : ℕ) → f false p ≡ false) → (j : ℕ) → (not (eqb a j) && any (f (ended rs a j)) (front t part)) ≡ (ended rs a j && any (f true) (block rs ps a))
+      met_is : (f : Bool → ℕ → Bool) → ((p : ℕ) → f false p ≡ false) → (j : ℕ) → (not (eqb a j) && any (f (ended rs a j)) (front t rest)) ≡ (ended rs a j && any (f true) (block rs ps a))
       met_is f e j = (λ q. not (eqb a j) && any (f (ended rs a j)) (mine q)) ∙ ap (λ (b : Bool). not (eqb a j) && b) (any_gated f e (ended rs a j) (block rs ps a)) ∙ go (ℕ_discrete a j)
         where
           go : Dec (a ≡ j) → (not (eqb a j) && (ended rs a j && any (f true) (block rs ps a))) ≡ (ended rs a j && any (f true) (block rs ps a))
@@ -122,12 +116,12 @@ module _ {w n : ℕ} {rs : List Row} {ps tab ends g : List ℕ} {before k a : �
 
       touched-is : (j : ℕ) → member x j ≡ (ended rs a j && touch w rs ps a j)
       touched-is j =
-          met.touched j ∙ (λ q. not (eqb a j) && any (λ p. s.index (w + item (unpack p)) j q) (front t part))
+          met.touched j ∙ (λ q. not (eqb a j) && any (λ p. s.index (w + item (unpack p)) j q) (front t rest))
           ∙ met_is (λ b p. b && marked w rs ps (w + item (unpack p)) j) (λ p. refl) j
 
       by-is : (j : ℕ) → member y j ≡ (ended rs a j && touch_by w rs ps a j)
       by-is j =
-          met.by j ∙ (λ q. not (eqb a j) && any (λ p. is_write (unpack p) && (s.index (item (unpack p)) j q || s.index (w + item (unpack p)) j q)) (front t part))
+          met.by j ∙ (λ q. not (eqb a j) && any (λ p. is_write (unpack p) && (s.index (item (unpack p)) j q || s.index (w + item (unpack p)) j q)) (front t rest))
           ∙ met_is (λ b p. is_write (unpack p) && ((b && marked w rs ps (item (unpack p)) j) || (b && marked w rs ps (w + item (unpack p)) j))) (λ p. and-false (is_write (unpack p))) j
 
       -- where a row is met, it ended before a's start, or it is not in the set
@@ -220,14 +214,13 @@ module _ {w n : ℕ} {rs : List Row} {ps tab ends g : List ℕ} {before k a : �
           go (yes q) = subst (λ (i : ℕ). get_or (set ends a d) i 0 ≡ done (at rs i)) q (get_or-set_same ends a d 0 (omega (arith, s.ends_len)) ∙ ed)
           go (no z) = ends_other j z ∙ s.commits j (sym (other j z) ∙ h)
 
-      pub draw_next : Drawing w n rs ps new (set ends a d) g' all (k + r) (a + 1)
+      pub draw_next : Drawing w n rs ps new (set ends a d) g' rest' all (a + 1)
       draw_next =
           record {
             tab-len = met.len ∙ s.tab-len;
             ends_len = length-set ends a d ∙ s.ends_len;
             g_len = dr.len ∙ s.g_len;
             place = place_next;
-            most = most_next;
             index = index_next;
             commits = commits-next;
             early = early_next;

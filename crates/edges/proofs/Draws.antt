@@ -1,47 +1,28 @@
 -- Loops over the rows of a set: those that ended before a moment, and the edges from each of them. Assumes nothing.
-use Prim.Native.Nat.{ℕ, ◌^◌, ◌≤◌, ◌<◌}
+use Prim.Native.Nat.{ℕ, ◌^◌, ◌<◌}
 use native.Mathlib.Decide.{ℕ_discrete}
-use native.Mathlib.Omega.{arith}
-use mathlib.Core.Bool.{Bool, true, false, not, cond, ◌&&◌, ◌||◌, or_assoc, or-false, and-true, false≢true}
+use mathlib.Core.Bool.{Bool, true, false, not, cond, ◌&&◌, ◌||◌, or_assoc, or-false, and-true}
 use mathlib.Core.List.{List}
 use mathlib.Core.Path.{◌≡◌, refl, sym, ap, subst, ◌∙◌}
-use lib.Bits.{bit_or, bit_and, and_le_l}
-use lib.Dec.{T, eqb}
+use lib.Bits.{bit_or, bit_and}
+use lib.Dec.{eqb}
 use lib.ListN.{length, get_or, set, length-set}
 use lib.Seq.{get_or-set_same, get_or-set_other}
 use borrow.Author.Tests.{eq-eqb, ne_eqb}
 use Rattle.laws.proofs.Lists.{T_out}
+use Rattle.std.specs.Prelude.{Some}
+use Rattle.graph.specs.Rows.{Takes}
 use Rattle.graph.specs.Sets.{member, outside}
 use Rattle.graph.proofs.Sets.{member-zero, member_or, member_and, member_with, member-outside}
 use Rattle.edges.specs.Blocks.{has}
 use Rattle.edges.specs.Drawn.{Linked, Drawn}
 use Rattle.edges.proofs.Meeting.{has-put}
 
--- a set without one row
-pub without_one : (w a j o : ℕ) {r : ℕ} → a < 2 ^ w → o < 2 ^ w → o ≡ bit_or 0 (2 ^ j) → r ≡ outside w a o → (i : ℕ) → member r i ≡ (member a i && not (eqb j i))
-without_one w a j o ha ho eo er i =
-    ap (λ (m : ℕ). member m i) er ∙ member-outside w a o i ha ho
-    ∙ ap (λ (b : Bool). member a i && not b) (ap (λ (m : ℕ). member m i) eo ∙ member_with 0 j i ∙ ap (λ (b : Bool). b || eqb j i) (member-zero i))
-
--- a row that is taken out of the rows left
-module _ (w left j o : ℕ) {r : ℕ} (hl : left < 2 ^ w) (ho : o < 2 ^ w) (eo : o ≡ bit_or 0 (2 ^ j)) (er : r ≡ outside w left o) (t : T (member left j)) where
-  taken : (i : ℕ) → member r i ≡ (member left i && not (eqb j i))
-  taken = without_one w left j o hl ho eo er
-
-  pub taken_falls : r < left
-  unfolding outside
-  taken_falls = go (ℕ_discrete r left)
-    where
-      most : r ≤ left
-      most = subst (λ (x : ℕ). x ≤ left) (sym er) (and_le_l left _)
-
-      go : Dec (r ≡ left) → r < left
-      go (yes e) = absurd (false≢true (sym (ap (λ (m : ℕ). member m j) (sym e) ∙ taken j ∙ rw (T_out (member left j) t, eq-eqb j j refl) refl) ∙ T_out (member left j) t))
-      go (no d) = omega (arith, most)
-
+-- a row is taken out of the rows left
+module _ (w left j r : ℕ) (t : Takes w left (Some j) r) where
   -- a test of the rows left, where j passes or fails it
   pub left_passes : (f : ℕ → Bool) (b : Bool) → f j ≡ b → (i : ℕ) → (member left i && f i) ≡ ((b && eqb j i) || (member r i && f i))
-  left_passes f b e i = sym (ap (λ (c : Bool). (b && eqb j i) || (c && f i)) (taken i) ∙ go (ℕ_discrete j i))
+  left_passes f b e i = sym (ap (λ (c : Bool). (b && eqb j i) || (c && f i)) (t.2 i) ∙ go (ℕ_discrete j i))
     where
       here : (c : Bool) → ((c && true) || ((true && false) && c)) ≡ (true && c)
       here true = refl
@@ -54,7 +35,7 @@ module _ (w left j o : ℕ) {r : ℕ} (hl : left < 2 ^ w) (ho : o < 2 ^ w) (eo :
       there false false c = refl
 
       go : Dec (j ≡ i) → ((b && eqb j i) || ((member left i && not (eqb j i)) && f i)) ≡ (member left i && f i)
-      go (yes q) = subst (λ (k : ℕ). ((b && eqb j k) || ((member left k && not (eqb j k)) && f k)) ≡ (member left k && f k)) q (rw (eq-eqb j j refl, T_out (member left j) t, e) (here b))
+      go (yes q) = subst (λ (k : ℕ). ((b && eqb j k) || ((member left k && not (eqb j k)) && f k)) ≡ (member left k && f k)) q (rw (eq-eqb j j refl, T_out (member left j) t.1, e) (here b))
       go (no d) = rw (ne_eqb j i d) (there b (member left i) (f i))
 
 -- ---- the rows that ended before a moment
@@ -71,15 +52,14 @@ pass_start w f touched before ht hb e =
     shut false false c = refl
 
 module _ {f : ℕ → Bool} {touched before all left : ℕ} (s : Passing f touched before all left) where
-  pub pass_next : (w j o : ℕ) {r : ℕ} → left < 2 ^ w → o < 2 ^ w → o ≡ bit_or 0 (2 ^ j) → r ≡ outside w left o → T (member left j) → f j ≡ false → Passing f touched before all r
-  pass_next w j o hl ho eo er t e = record { is = λ i. ap (λ (b : Bool). member all i || b) (sym (left_passes w left j o hl ho eo er t f false e i)) ∙ s.is i }
+  pub pass_next : (w j r : ℕ) → Takes w left (Some j) r → f j ≡ false → Passing f touched before all r
+  pass_next w j r t e = record { is = λ i. ap (λ (b : Bool). member all i || b) (sym (left_passes w left j r t f false e i)) ∙ s.is i }
 
-  pub pass_more : (w j o : ℕ) {r more : ℕ} → left < 2 ^ w → o < 2 ^ w → o ≡ bit_or 0 (2 ^ j) → r ≡ outside w left o → T (member left j) → f j ≡ true → more ≡ bit_or all (2 ^ j)
-      → Passing f touched before more r
-  pass_more w j o {r} {more} hl ho eo er t e em =
+  pub pass_more : (w j r : ℕ) {more : ℕ} → Takes w left (Some j) r → f j ≡ true → more ≡ bit_or all (2 ^ j) → Passing f touched before more r
+  pass_more w j r {more} t e em =
       record {
         is = λ i. ap (λ (b : Bool). b || (member r i && f i)) (ap (λ (m : ℕ). member m i) em ∙ member_with all j i)
-            ∙ or_assoc (member all i) (eqb j i) (member r i && f i) ∙ ap (λ (b : Bool). member all i || b) (sym (left_passes w left j o hl ho eo er t f true e i)) ∙ s.is i;
+            ∙ or_assoc (member all i) (eqb j i) (member r i && f i) ∙ ap (λ (b : Bool). member all i || b) (sym (left_passes w left j r t f true e i)) ∙ s.is i;
       }
 
   pub pass_done : left ≡ 0 → (j : ℕ) → member all j ≡ (member before j || (member touched j && f j))
@@ -90,18 +70,14 @@ pub record Linking (from i : ℕ) (g₀ g : List ℕ) (left : ℕ) : Type 0 wher
   pub len : length g ≡ length g₀
   pub is : (a j : ℕ) → (has g a j || (member left a && eqb i j)) ≡ (has g₀ a j || (member from a && eqb i j))
 
-pub link_start : {from i : ℕ} {g : List ℕ} → Linking from i g g from
-link_start = record { len = refl; is = λ a j. refl }
-
 module _ {from i : ℕ} {g₀ g : List ℕ} {left : ℕ} (s : Linking from i g₀ g left) where
-  pub link_next : (w b o : ℕ) {r v : ℕ} → left < 2 ^ w → o < 2 ^ w → o ≡ bit_or 0 (2 ^ b) → r ≡ outside w left o → T (member left b) → b < length g → v ≡ bit_or (get_or g b 0) (2 ^ i)
-      → Linking from i g₀ (set g b v) r
-  link_next w b o {r} {v} hl ho eo er t lb ev =
+  pub link_next : (w b r : ℕ) {v : ℕ} → Takes w left (Some b) r → b < length g → v ≡ bit_or (get_or g b 0) (2 ^ i) → Linking from i g₀ (set g b v) r
+  link_next w b r {v} t lb ev =
       record {
         len = length-set g b v ∙ s.len;
         is = λ a j. ap (λ (c : Bool). c || (member r a && eqb i j)) (ap (λ (m : ℕ). has (set g b m) a j) ev ∙ has-put g b i a j lb)
             ∙ moved (has g a j) (eqb b a) (eqb i j) (member r a)
-            ∙ ap (λ (c : Bool). has g a j || (c && eqb i j)) (sym (sym (and-true (member left a)) ∙ left_passes w left b o hl ho eo er t (λ x. true) true refl a ∙ ap (λ (c : Bool). eqb b a || c) (and-true (member r a))))
+            ∙ ap (λ (c : Bool). has g a j || (c && eqb i j)) (sym (sym (and-true (member left a)) ∙ left_passes w left b r t (λ x. true) true refl a ∙ ap (λ (c : Bool). eqb b a || c) (and-true (member r a))))
             ∙ s.is a j;
       }
     where

@@ -1,17 +1,23 @@
 -- Places in order, tables of zeros, and parts of a table. Assumes nothing.
-use Prim.Native.Nat.{ℕ, suc, ◌+◌, ◌-◌, ◌≤◌, ◌<◌}
+use Prim.Native.Nat.{ℕ, zero, suc, ◌+◌, ◌-◌, ◌≤◌, ◌<◌}
 use native.Mathlib.Decide.{dec_lt}
 use native.Mathlib.Omega.{arith}
-use mathlib.Core.Bool.{Bool, true, false}
+use mathlib.Core.Bool.{Bool, true, false, not, cond}
 use mathlib.Core.List.{List}
 use mathlib.Core.Path.{◌≡◌, refl, sym, ap, ◌∙◌}
 use lib.Dec.{ltb}
 use lib.ListN.{length, get_or, drop, take, replicate, length-take, length-drop}
 use lib.Seq.{take_all}
-use borrow.Author.Tests.{lt-ltb, le-ltb}
+use borrow.Author.Tests.{lt-ltb, le-ltb, ltb-false}
 use Rattle.lists.specs.Tables.{first_index}
 use Rattle.lists.proofs.Untils.{until_first, length-until}
 use Rattle.graph.proofs.Sets.{member-zero}
+use Rattle.std.specs.Prelude.{unwrap_or}
+use Rattle.std.specs.List.{position, position_or_len}
+use Rattle.std.proofs.lemmas.List.Recursion.{is_position_or_len}
+use Rattle.std.proofs.lemmas.List.Sums.{prefix_len-le-length}
+use Rattle.laws.proofs.Lists.{passed}
+use mathlib.Core.Logic.{◌⊎◌, inl, inr}
 use Rattle.edges.specs.Blocks.{has}
 
 -- ---- numbers in order
@@ -29,8 +35,8 @@ pub ltb_self : (a : ℕ) → ltb a a ≡ false
 ltb_self a = le-ltb a a (omega arith)
 
 pub get_or_zeros : (n e : ℕ) → ◌≡◌ {A = ℕ} (get_or {A = ℕ} (replicate n 0) e 0) 0
-get_or_zeros ℕ.zero e = refl
-get_or_zeros (suc n) ℕ.zero = refl
+get_or_zeros zero e = refl
+get_or_zeros (suc n) zero = refl
 get_or_zeros (suc n) (suc e) = get_or_zeros n e
 
 -- a table of empty sets

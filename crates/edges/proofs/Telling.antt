@@ -84,7 +84,7 @@ module _ (rs : List Row) (ps : List ℕ) (s : State) (v : Facts s) (holds : Hold
             ((λ q. (touches s (nth_num i) (nth_num j) && (ap not (sym (not_after j i lj li cj)) ∙ not-not (ltb (start (nth_row i)) (done (nth_row j)))) q) || sym (and-false (touches s (nth_num j) (nth_num i))) q))
         pick (no l) (no h) = rw (le-ltb i j (omega arith), le-ltb j i (omega arith), eq-eqb i j (omega arith)) refl
 
-    pub told : {n a before k : ℕ} {tab ends g : List ℕ} → a ≡ used_count rs → Drawing w n rs ps tab ends g before k a → (i j : ℕ) → in_table g i j ≡ edges s (nth_num i) (nth_num j)
+    pub told : {n a before : ℕ} {tab ends g rest : List ℕ} → a ≡ used_count rs → Drawing w n rs ps tab ends g rest before a → (i j : ℕ) → in_table g i j ≡ edges s (nth_num i) (nth_num j)
     unfolding in_table edges
     told {a = a} all d i j = d.is rising i j ∙ (λ q. (among-is i q && among-is j q) && linked w rs ps i j) ∙ go (passed (mem (nth_num i) (commits s))) (passed (mem (nth_num j) (commits s)))
       where
@@ -101,5 +101,5 @@ module _ (rs : List Row) (ps : List ℕ) (s : State) (v : Facts s) (holds : Hold
         go (inl x) (inl y) = let u = out i x in let u' = out j y in rw (x, y) (linked_is i j u.0 u'.0 u.1 u'.1)
 
 -- the masks tell the edges of every state that the tables hold
-pub edges-told : (w n : ℕ) → 256 ≤ w → (rs : List Row) (ps : List ℕ) {a before k : ℕ} {tab ends g : List ℕ} → a ≡ used_count rs → Drawing w n rs ps tab ends g before k a → EdgesTold n rs ps g
+pub edges-told : (w n : ℕ) → 256 ≤ w → (rs : List Row) (ps : List ℕ) {a before : ℕ} {tab ends g rest : List ℕ} → a ≡ used_count rs → Drawing w n rs ps tab ends g rest before a → EdgesTold n rs ps g
 edges-told w n wide rs ps all d = record { len = d.g_len; is = λ s h holds i j. told rs ps s (facts_of s h) holds w wide all d i j }

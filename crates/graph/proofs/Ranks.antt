@@ -1,4 +1,4 @@
--- With no ring, every edge goes forward by rank, the number of nodes that a node does not reach; so every node is founded. Assumes nothing.
+-- With no ring, every edge goes forward by rank, the number of nodes that a node does not reach. Assumes nothing.
 use Prim.Native.Nat.{ℕ, ◌<◌}
 use lib.Dec.{T, not_T}
 use Rattle.rules.specs.Graph.{Edges, Reaches}
@@ -7,7 +7,6 @@ use Rattle.graph.specs.Visit.{free}
 use Rattle.graph.proofs.Below.{free_falls}
 use Rattle.graph.proofs.Ways.{closed_way}
 use Rattle.graph.proofs.Reachable.{reachable-reached, ringed-is}
-use Rattle.laws.proofs.Graph.{Founded, founded_by}
 
 -- how many of the nodes below n are not reached from t by an edge or more
 unfoldable pub rank : ℕ → Edges → ℕ → ℕ
@@ -23,6 +22,3 @@ module _ (n : ℕ) (e : Edges) (bound : (i j : ℕ) → T (e i j) → (i < n) ×
       (λ i t. let w = from-b.only i t in closed_way (reachable n e (e a)) from-a.closed (from-a.closed b w.0 (from-a.has b h) w.1) w.2)
       (not_T (reachable n e (e b) b) (λ t. none ((ringed-is n e bound b).0 t)))
       (from-a.has b h)
-
-  pub acyclic_founded : ((t : ℕ) → Reaches e t t → ⊥) → (b : ℕ) → Founded e b
-  acyclic_founded acyclic = founded_by (rank n e) (λ a b h. rank_forward a b h (acyclic b))

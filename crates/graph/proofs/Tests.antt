@@ -2,13 +2,7 @@
 use mathlib.Core.Path.{◌≡◌, refl, sym, subst}
 use mathlib.Core.Bool.{Bool, true, false, ◌||◌}
 use lib.Dec.{T}
-
-pub passes : {b : Bool} → b ≡ true → T b
-passes e = subst T (sym e) tt
-
-pub passed : (b : Bool) → T b → b ≡ true
-passed true t = refl
-passed false t = absurd t
+use Rattle.laws.proofs.Lists.{T_out}
 
 pub fails : (b : Bool) → (T b → ⊥) → b ≡ false
 fails true f = absurd (f tt)
@@ -27,5 +21,5 @@ or_right false b t = t
 
 -- tests that are passed together are equal
 pub same : (a b : Bool) → (T a → T b) → (T b → T a) → a ≡ b
-same true b f g = sym (passed b (f tt))
+same true b f g = sym (T_out b (f tt))
 same false b f g = sym (fails b g)

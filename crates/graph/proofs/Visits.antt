@@ -30,9 +30,6 @@ module _ (at : ℕ) (s m : Nodes) (is : Marked at s m) where
   marked-free n l h = free_falls n s m at l marked-grows h marked-here
 
 module _ (e : Edges) (from s : Nodes) where
-  pub visiting-none : Visiting e from s s
-  visiting-none = record { grows = λ i t. t; only = λ i t. inl t; followed = λ i t. inl t }
-
   -- a node of `from` that is not in r is marked, and what leads on from it is visited
   module _ (r : Nodes) (v : Visiting e from s r) (at : ℕ) (h : T (from at)) (m : Nodes) (is : Marked at r m) (q : Nodes) (w : Visited e (e at) m q) where
     kept : (i : ℕ) → T (r i) → T (q i)

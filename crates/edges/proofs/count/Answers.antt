@@ -1,14 +1,14 @@
 -- `edges::count` meets its contract: the first record of another is looked for. Assumes nothing.
-use Rattle.std.proofs.Common.{rules, not, ap, sym, ◌∙◌, eq-eqb, ne_eqb}
-use Rattle.lists.proofs.Scans.{first_next, first_here, first_done}
+use Rattle.std.proofs.Common.{rules, tests, ap, ◌∙◌}
+use Rattle.std.specs.Prelude.{length, unwrap_or}
+use Rattle.std.proofs.lemmas.Iterator.{YieldsList-from_slice}
+use Rattle.std.proofs.lemmas.Iterator.Search.{position_from_yields_List}
 use Rattle.edges.specs.Blocks.{foreign}
+use Rattle.lists.proofs.Firsts.{first_found}
 use Rattle.edges.proofs.count.Goals as goal
 
-pub returns-then-txn_of-t : goal.returns-then-txn_of-t
-returns-then-txn_of-t c = first_here (foreign _) c.loop-k.invariant 0 (search rules) (ap not (ne_eqb _ _ (λ e. c.if-txn_of-t.true (c.txn_of.ensures ∙ e))))
-
-pub loop-k-preserved : goal.loop-k-preserved
-loop-k-preserved c = first_next (foreign _) c.loop-k.invariant 0 (search rules) (ap not (eq-eqb _ _ (sym c.txn_of.ensures ∙ c.if-txn_of-t.false)))
-
-pub returns : goal.returns
-returns c = first_done (foreign _) c.loop-k.invariant (search rules)
+pub returns-clause-is : goal.returns-clause-is
+returns-clause-is c =
+    c.unwrap_or.ensures
+    ∙ ap (λ o. unwrap_or o (length c.args.part.now)) (position_from_yields_List (foreign c.args.t.0) _ _ _ c.position.ensures.ran (YieldsList-from_slice c.args.part.now c.iter.ensures.rest) (λ x b q k. search (rules, tests)))
+    ∙ first_found (foreign c.args.t.0) c.args.part.now

@@ -7,5 +7,5 @@ use Rattle.edges.proofs.spent.Goals as goal
 
 pub returns : goal.returns
 returns c =
-    spent_told 32 4294967295 (omega arith) c.args.rows c.args.g.now (search rules) c.late-young.result c.late.result c.reach.result (search rules) (search rules)
-    (λ j. c.late-young.ensures j ∙ ap (λ (m : ℕ). placed (since m) c.args.rows (used_count c.args.rows) j) c.limit-m.ensures) c.late.ensures c.reach.ensures c.without.ensures
+    spent_told 32 4294967295 (omega arith) c.args.rows.now c.args.g.now (search rules) c.late-young.result c.late.result c.reach.result (search rules) (search rules)
+    (λ j. c.late-young.ensures j ∙ ap (λ (m : ℕ). placed (since m) c.args.rows.now (used_count c.args.rows.now) j) c.limit-m.ensures) c.late.ensures c.reach.ensures c.without.ensures

@@ -7,8 +7,13 @@ use Rattle.graph.proofs.+visit.Given as goal
 abbrev pub decreases-visit : goal.decreases-visit
 decreases-visit l = l.left
 
-abbrev pub invariant-loop-from : goal.invariant-loop-from
-invariant-loop-from l = (l.s < 2 ^ 32) × (free 32 (member l.s) ≤ l.fn.left) × Visiting (edges l.fn.g) (member l.fn.from) (member l.fn.seen) (member l.s)
+abbrev pub invariant-loop-i : goal.invariant-loop-i
+invariant-loop-i l =
+    record {
+      small : l.s < 2 ^ 32;
+      depth : free 32 (member l.s) ≤ l.fn.left;
+      visiting : Visiting (edges l.fn.g) (member l.fn.from) (member l.fn.seen) (member l.s);
+    }
 
-abbrev pub decreases-loop-from : goal.decreases-loop-from
-decreases-loop-from l = free 32 (member l.s)
+abbrev pub decreases-loop-i : goal.decreases-loop-i
+decreases-loop-i l = free 32 (member l.s)

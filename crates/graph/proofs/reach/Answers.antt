@@ -9,12 +9,12 @@ use Rattle.graph.proofs.Reachable.{reached-is}
 use Rattle.graph.proofs.reach.Goals as goal
 
 pub visit-requires : goal.visit-requires
-visit-requires c = (search rules, free-le _ (member _))
+visit-requires c = free-le _ (member _)
 
 pub returns : goal.returns
 returns c =
     let g = c.args.g.now in
     let seeds = c.args.seeds in
-    reached-is _ (edges g) (edges_bound _ g c.requires (λ i. (c.type_inv.g i).fits))
-    (member seeds) (member c.visit.result) (λ i. member_lt _ seeds i c.ranges.seeds.fits)
+    reached-is 32 (edges g) (edges_bound 32 g (search rules) (search rules))
+    (member seeds) (member c.visit.result) (λ i. member_lt 32 seeds i c.ranges.seeds.fits)
     (visited_reached (edges g) (member seeds) (member 0) (member c.visit.result) (λ i. failed (member-zero i)) c.visit.ensures)
