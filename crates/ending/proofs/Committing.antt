@@ -2,7 +2,7 @@
 use Prim.Native.Nat.{ℕ, ◌≤◌, ◌<◌}
 use native.Mathlib.Omega.{arith}
 use mathlib.Core.Bool.{Bool, ◌&&◌, false, true}
-use mathlib.Core.List.{List, map}
+use mathlib.Core.List.{List}
 use mathlib.Core.Path.{◌∙◌, ◌≡◌, ap, subst, sym}
 use lib.Dec.{ltb}
 use lib.ListN.{length, length-map}
@@ -69,9 +69,9 @@ module _ (n m : ℕ) (s : State) (k : Roomy n m s) (t : ℕ) (on : is_active s t
   there = subst (λ (b : ℕ). b ∈ commits (committing s t)) a.2 (commits_in (committing s t) (mine_in s (lawful_facts s k.lawful-is) t a) (mine-committed s (lawful_facts s k.lawful-is) t a))
 
   module _ {values writers : List ℕ} {rows : List Row} {recs : List ℕ} (st : Stand n m (committing s t) values writers rows recs) {g : List ℕ} (et : EdgesTold n rows recs g) where
-    placed : (i : ℕ) → i < length (committing s t).rows → num (at (committing s t).rows i) ≡ t → place_of (map num rows) t ≡ i
+    placed : (i : ℕ) → i < length (committing s t).rows → num (at (committing s t).rows i) ≡ t → place_of rows t ≡ i
     unfolding raw_of
-    placed i l e = (λ j. place_of (map num (st.rows_are j)) (sym e j)) ∙ place_is n (committing s t) v few_rows i l
+    placed i l e = (λ j. place_of (st.rows_are j) (sym e j)) ∙ place_is n (committing s t) v few_rows i l
 
     pub ring-at : ring_at n g rows t ≡ ring (committing s t)
     unfolding ring_at

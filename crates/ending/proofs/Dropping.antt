@@ -55,10 +55,10 @@ module _ (n m : ℕ) (s : State) (k : Roomy n m s) (t : ℕ) where
 
 -- so to take a transaction out and then to tidy is to end it
 pub ended_by : (n t : ℕ) {values writers values'' writers'' : List ℕ} {rows rows' rows'' : List Row} {recs recs' recs'' : List ℕ}
-    → Tidied n (length recs') values writers rows' recs' values'' writers'' rows'' recs''
-    → rows' ≡ padded n zero_row (keep (other_row t) rows) → recs' ≡ padded (length recs) 0 (keep (other_rec t) recs)
+    → length rows ≡ n → Tidied n (length recs') values writers rows' recs' values'' writers'' rows'' recs''
+    → rows' ≡ padded (length rows) zero_row (keep (other_row t) rows) → recs' ≡ padded (length recs) 0 (keep (other_rec t) recs)
     → Ended n (length recs) t values writers rows recs values'' writers'' rows'' recs''
-ended_by n t {values} {writers} {values''} {writers''} {rows} {rows'} {rows''} {recs} {recs'} {recs''} tidied r p s k a st =
+ended_by n t {values} {writers} {values''} {writers''} {rows} {rows'} {rows''} {recs} {recs'} {recs''} long tidied r p s k a st =
     subst (λ (m : ℕ). Tidied n m values writers rows' recs' values'' writers'' rows'' recs'')
     (ap length p ∙ length-padded (length recs) 0 (keep (other_rec t) recs) (length-keep (other_rec t) recs)) tidied
-    (dropped s t) (roomy_dropped n (length recs) s k t a) tt (stand_dropped n (length recs) s k t st r p)
+    (dropped s t) (roomy_dropped n (length recs) s k t a) tt (stand_dropped n (length recs) s k t st (r ∙ ap (λ (m : ℕ). padded m zero_row (keep (other_row t) rows)) long) p)

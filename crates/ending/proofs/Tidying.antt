@@ -1,12 +1,12 @@
 -- With the spent rows known, the tables that are left are those of the pruned state. Assumes nothing.
 use Prim.Native.Nat.{ℕ}
 use mathlib.Core.Bool.{false, false≢true, true}
-use mathlib.Core.List.{List, map}
+use mathlib.Core.List.{List}
 use mathlib.Core.Logic.{◌⊎◌, inl, inr}
 use mathlib.Core.Path.{◌∙◌, ◌≡◌, ap, subst, sym}
 use Rattle.terms.specs.declared.Row.{Row}
 use Rattle.terms.specs.declared.Rec.{Rec}
-use Rattle.terms.specs.Words.{done, num}
+use Rattle.terms.specs.Words.{num}
 use Rattle.rules.specs.Lists.{keep, padded}
 use Rattle.rules.specs.Raw.{raw_of, used_recs, zero_row}
 use Rattle.rules.specs.Spent.{forget, is_spent, prune}
@@ -52,18 +52,14 @@ module _ (n m : ℕ) (s : State) (k : Roomy n m s) {values writers : List ℕ} {
 
   -- the spent ones are taken out
   module _ {values' writers' : List ℕ} {rows' : List Row} {recs' : List ℕ}
-      (p : Passed gone (map num rows) (map done rows) recs values writers values' writers')
-      (q : recs' ≡ padded m 0 (keep (stays gone (map num rows)) (used_recs recs)))
+      (p : Passed gone rows recs values writers values' writers')
+      (q : recs' ≡ padded m 0 (keep (stays gone rows) (used_recs recs)))
       (r : rows' ≡ padded n zero_row (leaving (member gone) 0 rows)) where
     packs : (x : Rec) → x ∈ s.recs → Packs x
     packs x h = k.fits.packs h
 
-    passed_on : Passed gone (map num (raw_of n m s).rows) (map done (raw_of n m s).rows) (raw_of n m s).recs (raw_of n m s).values (raw_of n m s).writers values' writers'
-    passed_on =
-        subst (λ (rs : List Row). Passed gone (map num rs) (map done rs) (raw_of n m s).recs (raw_of n m s).values (raw_of n m s).writers values' writers') st.rows_are
-        (subst (λ (ps : List ℕ). Passed gone (map num rows) (map done rows) ps (raw_of n m s).values (raw_of n m s).writers values' writers') st.recs_are
-        (subst (λ (vs : List ℕ). Passed gone (map num rows) (map done rows) recs vs (raw_of n m s).writers values' writers') st.values_are
-        (subst (λ (ws : List ℕ). Passed gone (map num rows) (map done rows) recs values ws values' writers') st.writers_are p)))
+    passed_on : Passed gone (raw_of n m s).rows (raw_of n m s).recs (raw_of n m s).values (raw_of n m s).writers values' writers'
+    passed_on = rw (← st.rows_are, ← st.recs_are, ← st.values_are, ← st.writers_are) p
 
     pub tidy_some : Stand n m (prune s) values' writers' rows' recs'
     unfolding raw_of
@@ -72,6 +68,6 @@ module _ (n m : ℕ) (s : State) (k : Roomy n m s) {values writers : List ℕ} {
       writers_are = writers_pruned n m s (tested_in s k.lawful-is) packs k.rows_few gone is passed_on;
       rows_are = r ∙ ap (λ (rs : List Row). padded n zero_row (leaving (member gone) 0 rs)) st.rows_are ∙ rows_pruned n m s (tested_in s k.lawful-is) packs k.rows_few gone is;
       recs_are =
-          q ∙ (λ j. padded m 0 (keep (stays gone (map num (st.rows_are j))) (used_recs (st.recs_are j))))
+          q ∙ (λ j. padded m 0 (keep (stays gone (st.rows_are j)) (used_recs (st.recs_are j))))
           ∙ recs_pruned n m s (tested_in s k.lawful-is) packs k.rows_few gone is;
     }

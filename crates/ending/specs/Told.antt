@@ -1,7 +1,6 @@
 -- What the four tables are after an end or a commit, by the state that they hold. Assumes nothing.
-use Rattle.std.specs.Prelude.{ℕ, ◌≤◌, ◌≡◌, Bool, true, ◌&&◌, List, map, ltb, length}
+use Rattle.std.specs.Prelude.{ℕ, ◌≤◌, ◌≡◌, Bool, true, ◌&&◌, List, ltb, length}
 use Rattle.terms.specs.declared.Row.{Row}
-use Rattle.terms.specs.Words.{num}
 use Rattle.rules.specs.Raw.{raw_of}
 use Rattle.rules.specs.Sound.{lawful}
 use Rattle.rules.specs.Spent.{prune}
@@ -40,4 +39,4 @@ Ended n m t = Becomes n m (λ s. prune (dropped s t)) (λ s. is_active s t ≡ t
 
 -- a ring passes through the row with the number t
 unfoldable pub ring_at : ℕ → List ℕ → List Row → ℕ → Bool
-ring_at n g rs t = ltb (place_of (map num rs) t) n && ringed n (in_table g) (place_of (map num rs) t)
+ring_at n g rs t = ltb (place_of rs t) n && ringed n (in_table g) (place_of rs t)

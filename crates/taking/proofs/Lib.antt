@@ -1,5 +1,5 @@
+pub mod Places
 pub mod Leaves
-pub mod Sieves
 pub mod Passes
 pub mod Placed
 pub mod Taken

@@ -9,7 +9,7 @@ use Rattle.rules.specs.Raw.{pack, raw_of, used_recs, zero_row}
 use Rattle.rules.specs.Sound.{tested}
 use Rattle.rules.specs.Spent.{is_spent, prune}
 use Rattle.rules.specs.State.{State, commits}
-use Rattle.terms.specs.Words.{num, done}
+use Rattle.terms.specs.Words.{num}
 use Rattle.terms.specs.declared.Rec.{Rec}
 use Rattle.laws.proofs.Lists.{◌∈◌}
 use Rattle.laws.proofs.Raw.{Packs}
@@ -31,12 +31,12 @@ module _ (n m : ℕ) (s : State) (h : tested s ≡ true) (fits : (x : Rec) → x
   unfolding prune
   rows_pruned = rows_taken n m s (facts_of s h) fits room (is_spent s) only gone is
 
-  pub recs_pruned : padded m 0 (keep (stays gone (map num (padded n zero_row s.rows))) (used_recs (padded m 0 (map pack s.recs)))) ≡ (raw_of n m (prune s)).recs
+  pub recs_pruned : padded m 0 (keep (stays gone (padded n zero_row s.rows)) (used_recs (padded m 0 (map pack s.recs)))) ≡ (raw_of n m (prune s)).recs
   unfolding prune
   recs_pruned = recs_taken n m s (facts_of s h) fits room (is_spent s) only gone is
 
   module _ {values writers : List ℕ}
-      (p : Passed gone (map num (padded n zero_row s.rows)) (map done (padded n zero_row s.rows)) (padded m 0 (map pack s.recs)) (padded 256 0 s.values) (padded 256 0 s.writers) values writers) where
+      (p : Passed gone (padded n zero_row s.rows) (padded m 0 (map pack s.recs)) (padded 256 0 s.values) (padded 256 0 s.writers) values writers) where
     pub values_pruned : values ≡ (raw_of n m (prune s)).values
     unfolding prune
     values_pruned = values_taken n m s (facts_of s h) fits room (is_spent s) only gone is p

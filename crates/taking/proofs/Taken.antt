@@ -63,18 +63,18 @@ module _ (n m : ℕ) (s : State) (v : Facts s) (fits : (x : Rec) → x ∈ s.rec
           positive x (inr k) e = omega arith
 
   -- whether a record's row goes
-  pub goes : {x : Rec} → x ∈ s.recs → member gone (place_of (map num (padded n zero_row s.rows)) (txn (unpack (pack x)))) ≡ g (txn x)
+  pub goes : {x : Rec} → x ∈ s.recs → member gone (place_of (padded n zero_row s.rows) (txn (unpack (pack x)))) ≡ g (txn x)
   goes {x} k =
       let o = v.owner k in
       let w = in_place zero_row s.rows o.1 in
       let e = ap num w.2 ∙ o.2 in
-      ap (λ (y : Rec). member gone (place_of (map num (padded n zero_row s.rows)) (txn y))) (unpack-pack x (fits x k))
-      ∙ ap (λ (t : ℕ). member gone (place_of (map num (padded n zero_row s.rows)) t)) (sym e)
+      ap (λ (y : Rec). member gone (place_of (padded n zero_row s.rows) (txn y))) (unpack-pack x (fits x k))
+      ∙ ap (λ (t : ℕ). member gone (place_of (padded n zero_row s.rows) t)) (sym e)
       ∙ ap (member gone) (place_is n s v room w.0 w.1) ∙ is w.0 ∙ ap g e
 
-  pub recs_taken : padded m 0 (keep (stays gone (map num (padded n zero_row s.rows))) (used_recs (padded m 0 (map pack s.recs)))) ≡ (raw_of n m (forget g s)).recs
+  pub recs_taken : padded m 0 (keep (stays gone (padded n zero_row s.rows)) (used_recs (padded m 0 (map pack s.recs)))) ≡ (raw_of n m (forget g s)).recs
   unfolding raw_of forget
   recs_taken =
-      ap (λ (l : List ℕ). padded m 0 (keep (stays gone (map num (padded n zero_row s.rows))) l)) used
-      ∙ ap (padded m 0) (sym (map-keep pack (stays gone (map num (padded n zero_row s.rows))) s.recs)
+      ap (λ (l : List ℕ). padded m 0 (keep (stays gone (padded n zero_row s.rows)) l)) used
+      ∙ ap (padded m 0) (sym (map-keep pack (stays gone (padded n zero_row s.rows)) s.recs)
       ∙ ap (map pack) (keep_same _ _ s.recs (λ x k. ap not (goes k))))

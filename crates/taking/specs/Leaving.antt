@@ -1,19 +1,24 @@
 -- What is left of the rows and the records when the rows at some places go. Assumes nothing.
-use Rattle.std.specs.Prelude.{ℕ, suc, Bool, true, false, not, List, [], ◌∷◌, eqb}
+use Rattle.std.specs.List.{position_or_len}
+use Rattle.std.specs.Prelude.{ℕ, ◌+◌, Bool, true, false, not, cond, List, [], ◌∷◌, eqb, Option, Some, None}
 use Rattle.rules.specs.Raw.{unpack}
-use Rattle.terms.specs.Words.{txn}
-use Rattle.lists.specs.Tables.{first_index}
+use Rattle.terms.specs.declared.Row.{Row}
+use Rattle.terms.specs.Words.{num, txn}
 use Rattle.graph.specs.Sets.{member}
 
 -- the elements whose place does not pass the test, where the first has the place k
-unfoldable pub leaving : {A : Type 0} → (ℕ → Bool) → ℕ → List A → List A
+abbrev pub leaving : {A : Type 0} → (ℕ → Bool) → ℕ → List A → List A
 leaving g k [] = []
-leaving g k (x ∷ xs) = elim (g k) [ true ↦ leaving g (suc k) xs | false ↦ x ∷ leaving g (suc k) xs ]
+leaving g k (x ∷ xs) = elim (g k) [ true ↦ leaving g (k + 1) xs | false ↦ x ∷ leaving g (k + 1) xs ]
 
--- the place of a number in a list of numbers, or the list's length
-abbrev pub place_of : List ℕ → ℕ → ℕ
-place_of nums t = first_index (λ n. eqb n t) nums
+-- the place of the row with a number, or past all
+abbrev pub place_of : List Row → ℕ → ℕ
+place_of rows t = position_or_len (λ r. eqb (num r) t) rows
 
 -- the record's row does not go
-abbrev pub stays : ℕ → List ℕ → ℕ → Bool
-stays gone nums p = not (member gone (place_of nums (txn (unpack p))))
+abbrev pub stays : ℕ → List Row → ℕ → Bool
+stays gone rows p = not (member gone (place_of rows (txn (unpack p))))
+
+-- the place of the row with a number, if the row goes
+abbrev pub gone_at : ℕ → List Row → ℕ → Option ℕ
+gone_at gone rows t = cond (member gone (place_of rows t)) (Some (place_of rows t)) None

@@ -1,194 +1,142 @@
 // Rows that go lose their row and their records, and their latest versions pass into the value tables.
 #![tactic(auto)]
 
-ghost use Rattle.std.specs.Prelude.{◌≡◌, map, ◌%◌, ◌<◌, length, take};
+ghost use Rattle.std.specs.Prelude.{◌≡◌, ◌<◌, length, eqb, position};
+ghost use Rattle.std.specs.Option.{ForSome};
 ghost use Rattle.rules.specs.Lists.{keep, padded};
-ghost use Rattle.rules.specs.Raw.{unpack, used_recs, zero_row};
-ghost use Rattle.terms.specs.Words.{num, done};
+ghost use Rattle.rules.specs.Raw.{used_recs, zero_row};
+ghost use Rattle.terms.specs.Words.{num};
 ghost use Rattle.graph.specs.Sets.{member};
-ghost use Rattle.taking.specs.Leaving.{leaving, place_of, stays};
+ghost use Rattle.taking.specs.Leaving.{leaving, gone_at, stays};
 ghost use Rattle.taking.specs.Passing.{Passed};
 
 use edges::ITEMS;
 use graph::{ROWS, Set};
+use packed::{is_write, item_of, txn_of, word_of};
 use terms::{Moment, Row, TxnNo};
 
+// Where the row with the number t stands.
+pub fn place(rows: &[Row; ROWS], t: TxnNo) -> Option<usize>
+    ensures place { result ≡ position (λ r. eqb (num r) t.0) rows.now }
+    ensures small { ForSome result (λ at. at < length rows.now) }
+{
+    rows.iter().position(|r| r.number == t)
+}
+
+// The same, if the row goes.
+#[tactic(auto, using(crate::proofs::Places::found_gone, crate::proofs::Places::found_stays, crate::proofs::Places::missing))]
+fn place_gone(rows: &[Row; ROWS], gone: Set, t: TxnNo) -> Option<usize>
+    ensures place { result ≡ gone_at gone rows.now t.0 }
+    ensures small { ForSome result (λ at. at < length rows.now) }
+{
+    place(rows, t).filter(|at| graph::has(gone, *at))
+}
+
+// Tells of one record after the other whether its row goes. The records of one transaction stand together, so the last answer is kept.
+#[derive(Clone, Copy)]
+struct Leaving<'a> {
+    rows: &'a [Row; ROWS],
+    gone: Set,
+    last: TxnNo,
+    at: Option<usize>,
+    ghost known: { at ≡ gone_at gone rows.now last.0 },
+    ghost small: { ForSome at (λ i. i < length rows.now) },
+}
+
+impl<'a> Leaving<'a> {
+    fn new(rows: &'a [Row; ROWS], gone: Set) -> Leaving<'a>
+        ensures rows { result.rows.now ≡ rows.now }
+        ensures gone { result.gone ≡ gone }
+    {
+        let last = TxnNo(0);
+        let at = place_gone(rows, gone, last);
+        Leaving {
+            rows,
+            gone,
+            last,
+            at,
+        }
+    }
+
+    // The place of t's row, if it goes.
+    fn place(&mut self, t: TxnNo) -> Option<usize>
+        ensures place { result ≡ gone_at self.old.gone self.old.rows.now t.0 }
+        ensures small { ForSome result (λ at. at < length self.old.rows.now) }
+        ensures rows { self.new.rows.now ≡ self.old.rows.now }
+        ensures gone { self.new.gone ≡ self.old.gone }
+    {
+        if t != self.last {
+            self.at = place_gone(self.rows, self.gone, t);
+            self.last = t;
+        }
+        self.at
+    }
+}
+
 // The rows without those at the places of a set, moved up.
-pub fn rows_without(rows: [Row; ROWS], gone: Set) -> [Row; ROWS]
-    ensures { result ≡ padded ROWS zero_row (leaving (member gone) 0 rows) }
+pub fn rows_without(rows: &mut [Row; ROWS], gone: Set)
+    ensures { rows.new ≡ padded ROWS zero_row (leaving (member gone) 0 rows.old) }
 {
-    let z = Row {
-        number: TxnNo(0),
-        start: Moment(0),
-        commit: Moment(0),
-    };
-    let mut out = [z; ROWS];
-    let mut j = 0;
-    let mut i = 0;
-    while i < ROWS {
-        let r = rows[i];
-        let at = i;
-        i += 1;
+    let mut kept = 0;
+    // By places: it writes the table that it reads.
+    for at in 0..ROWS {
         if !graph::has(gone, at) {
-            out[j] = r;
-            j += 1;
+            rows[kept] = rows[at];
+            kept += 1;
         }
     }
-    out
-}
-
-// The rows' numbers.
-fn numbers(rows: [Row; ROWS]) -> [u32; ROWS]
-    ensures { result ≡ map num rows }
-{
-    let mut out = [0; ROWS];
-    let mut i = 0;
-    while i < ROWS {
-        let r = rows[i];
-        out[i] = r.number.0;
-        i += 1;
-    }
-    out
-}
-
-// The rows' commits.
-fn commits(rows: [Row; ROWS]) -> [u32; ROWS]
-    ensures { result ≡ map done rows }
-{
-    let mut out = [0; ROWS];
-    let mut i = 0;
-    while i < ROWS {
-        let r = rows[i];
-        out[i] = r.commit.0;
-        i += 1;
-    }
-    out
-}
-
-// Where t stands, or the length.
-fn find(nums: &[u32], t: u32) -> usize
-    ensures { result ≡ place_of nums.now t }
-{
-    let mut i = 0;
-    while i < nums.len() {
-        if nums[i] == t {
-            return i;
-        }
-        i += 1;
-    }
-    i
-}
-
-// Where t stands, if `last` stands at `at`.
-fn again(nums: &[u32], last: u32, at: usize, t: u32) -> usize
-    requires { at ≡ place_of nums.now last }
-    ensures { result ≡ place_of nums.now t }
-{
-    if t == last {
-        return at;
-    }
-    find(nums, t)
-}
-
-// Whether the place is in the set; a place past all is not.
-fn is_gone(gone: Set, at: usize) -> bool
-    ensures { result ≡ member gone at }
-{
-    if at < ROWS {
-        return graph::has(gone, at);
-    }
-    false
-}
-
-// Moves the records of the rows that stay up, and says how many they are.
-fn sieve(recs: &mut [u64], nums: &[u32], gone: Set) -> usize
-    ensures { (length recs.new ≡ length recs.old) × (take result recs.new ≡ keep (stays gone nums.now) (used_recs recs.old)) }
-{
-    let mut last = 0;
-    let mut at = find(nums, 0);
-    let mut i = 0;
-    let mut j = 0;
-    while j < recs.len() {
-        let x = recs[j];
-        if x == 0 {
-            return i;
-        }
-        let t = edges::txn_of(x);
-        at = again(nums, last, at, t);
-        last = t;
-        j += 1;
-        if !is_gone(gone, at) {
-            recs[i] = x;
-            i += 1;
-        }
-    }
-    i
+    rows[kept..].fill(Row::default());
 }
 
 // The records without those of the rows that go, moved up.
-pub fn recs_without(recs: &mut [u64], rows: [Row; ROWS], gone: Set)
-    ensures { recs.new ≡ padded (length recs.old) 0 (keep (stays gone (map num rows)) (used_recs recs.old)) }
+pub fn recs_without(recs: &mut [u64], rows: &[Row; ROWS], gone: Set)
+    ensures { recs.new ≡ padded (length recs.old) 0 (keep (stays gone rows.now) (used_recs recs.old)) }
 {
-    let nums = numbers(rows);
-    let n = sieve(recs, &nums, gone);
-    lists::clear_from(recs, n);
-}
-
-// The word of a packed record.
-fn word_of(x: u64) -> u32
-    ensures { result ≡ (unpack x).word }
-{
-    (x % 4294967296) as u32
+    let mut leaving = Leaving::new(rows, gone);
+    let mut kept = 0;
+    // By places, for the same reason.
+    for at in 0..recs.len() {
+        let p = recs[at];
+        if p == 0 {
+            break;
+        }
+        if leaving.place(txn_of(p)).is_none() {
+            recs[kept] = p;
+            kept += 1;
+        }
+    }
+    recs[kept..].fill(0);
 }
 
 // Passes the latest version of each item that rows that go wrote into the value tables.
-fn pass(
-    values: &mut [u32],
-    writers: &mut [u32],
+pub fn pass_on(
+    values: &mut [u32; ITEMS],
+    writers: &mut [u32; ITEMS],
+    rows: &[Row; ROWS],
     recs: &[u64],
-    nums: &[u32],
-    ends: &[u32],
     gone: Set,
 )
-    requires { (length values.old ≡ ITEMS) × (length writers.old ≡ ITEMS) × (length ends.now ≡ ROWS) }
-    ensures { Passed gone nums.now ends.now recs.now values.old writers.old values.new writers.new }
+    ensures { Passed gone rows.now recs.now values.old writers.old values.new writers.new }
 {
-    let mut best = [0; ITEMS];
-    let mut last = 0;
-    let mut at = find(nums, 0);
-    let mut k = 0;
-    while k < recs.len() {
-        let x = recs[k];
-        if x == 0 {
-            return;
-        }
-        let t = edges::txn_of(x);
-        at = again(nums, last, at, t);
-        last = t;
-        k += 1;
-        if is_gone(gone, at) {
-            if edges::is_write(x) {
-                let i = edges::item_of(x);
-                let c = ends[at];
-                if best[i] < c {
-                    best[i] = c;
-                    values[i] = word_of(x);
-                    writers[i] = t;
-                }
-            }
-        }
-    }
-}
-
-// The same with rows by value. Mostly no row goes, and then no record is read.
-pub fn pass_on(values: &mut [u32], writers: &mut [u32], rows: [Row; ROWS], recs: &[u64], gone: Set)
-    requires { (length values.old ≡ ITEMS) × (length writers.old ≡ ITEMS) }
-    ensures { Passed gone (map num rows) (map done rows) recs.now values.old writers.old values.new writers.new }
-{
+    // Mostly no row goes, and then no record is read.
     if gone == 0 {
         return;
     }
-    let nums = numbers(rows);
-    let ends = commits(rows);
-    pass(values, writers, recs, &nums, &ends, gone);
+    let mut leaving = Leaving::new(rows, gone);
+    let mut best = [Moment(0); ITEMS];
+    for &p in recs {
+        if p == 0 {
+            break;
+        }
+        let t = txn_of(p);
+        if let Some(at) = leaving.place(t) {
+            let i = item_of(p).0 as usize;
+            let commit = rows[at].commit;
+            if is_write(p) && best[i] < commit {
+                best[i] = commit;
+                values[i] = word_of(p);
+                writers[i] = t.0;
+            }
+        }
+    }
 }

@@ -3,4 +3,4 @@ use Rattle.ending.proofs.Dropping.{ended_by}
 use Rattle.ending.proofs.end.Goals as goal
 
 pub returns : goal.returns
-returns c = ended_by _ _ c.tidy.ensures c.remove-left.ensures c.remove_of.ensures
+returns c = ended_by _ _ c.told-rows c.tidy.ensures c.remove.ensures c.remove_of.ensures

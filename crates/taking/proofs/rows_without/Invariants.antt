@@ -1,12 +1,8 @@
--- The rows that stay so far, one after the other, and zero rows after them: `Leaving`. Assumes nothing.
-use Rattle.std.proofs.Common.{◌-◌}
-use Rattle.rules.specs.Raw.{zero_row}
+-- The rows that stay so far, moved up. Assumes nothing.
+use Rattle.std.proofs.Common.{◌≡◌, ◌≤◌, ◌++◌, drop, length, take}
 use Rattle.graph.specs.Sets.{member}
-use Rattle.taking.proofs.Leaves.{Leaving}
+use Rattle.taking.specs.Leaving.{leaving}
 use Rattle.taking.proofs.rows_without.Given as goal
 
-abbrev pub invariant-loop-i : goal.invariant-loop-i
-invariant-loop-i l = Leaving (member l.gone) zero_row 32 l.rows l.out l.j l.i
-
-abbrev pub decreases-loop-i : goal.decreases-loop-i
-decreases-loop-i l = 32 - l.i
+abbrev pub invariant-loop-at : goal.invariant-loop-at
+invariant-loop-at l = (l.kept ≤ l.at) × (length l.rows ≡ length l.initial.rows) × (take l.kept l.rows ++ leaving (member l.gone) l.at (drop l.at l.rows) ≡ leaving (member l.gone) 0 l.initial.rows)
