@@ -31,18 +31,18 @@ module _ (rs : List Row) (i j : ℕ) where
       (ltb-true j i (and_left (ltb j i) _ h), and_left (committed (at rs j)) _ r, ltb-true (done (at rs j)) (start (at rs i)) (and_right (committed (at rs j)) _ r))
 
 -- of the rows before index i: those that are committed, and the ends of these; those that ended before the row at i or any behind it
-pub record Ended (n : ℕ) (rs : List Row) (i kept gone : ℕ) (ends : List ℕ) : Type 0 where
+pub record Ended (rs : List Row) (i kept gone : ℕ) (ends : List ℕ) : Type 0 where
   pub len : length ends ≡ 32
   pub keeps : (j : ℕ) → member kept j ≡ true → (j < i) × (committed (at rs j) ≡ true)
   pub kept_in : (j : ℕ) → j < i → committed (at rs j) ≡ true → member kept j ≡ true
-  pub past : (j : ℕ) → member gone j ≡ true → (k : ℕ) → i ≤ k → k < n → earlier_than rs k j ≡ true
+  pub past : (j : ℕ) → member gone j ≡ true → (k : ℕ) → i ≤ k → k < length rs → earlier_than rs k j ≡ true
   pub end : (j : ℕ) → j < i → committed (at rs j) ≡ true → get_or ends j 0 ≡ done (at rs j)
 
 none_of : {A : Type 0} (j : ℕ) → member 0 j ≡ true → A
 none_of j h = absurd (false≢true (sym (member-zero j) ∙ h))
 
-pub ended-start : (n : ℕ) (rs : List Row) (ends : List ℕ) → length ends ≡ 32 → Ended n rs 0 0 0 ends
-ended-start n rs ends l = record {
+pub ended-start : (rs : List Row) (ends : List ℕ) → length ends ≡ 32 → Ended rs 0 0 0 ends
+ended-start rs ends l = record {
   len = l;
   keeps = λ j h. none_of j h;
   kept_in = λ j b c. absurd (omega arith);
@@ -50,9 +50,9 @@ ended-start n rs ends l = record {
   end = λ j b c. absurd (omega arith);
 }
 
-module _ (n : ℕ) (rs : List Row) (rise : (i j : ℕ) → i < j → j < n → start (at rs i) < start (at rs j)) (i kept gone : ℕ) (ends : List ℕ) (s : Ended n rs i kept gone ends) (l : i < n)
+module _ (rs : List Row) (rise : (i j : ℕ) → i < j → j < length rs → start (at rs i) < start (at rs j)) (i kept gone : ℕ) (ends : List ℕ) (s : Ended rs i kept gone ends) (l : i < length rs)
     (r : ℕ) (is : (j : ℕ) → member r j ≡ (member gone j || (member kept j && ltb (get_or ends j 0) (start (at rs i))))) where
-  pub ended_is : (j : ℕ) → member r j ≡ earlier_than rs i j
+  ended_is : (j : ℕ) → member r j ≡ earlier_than rs i j
   ended_is j =
       both_ways _ _
       (λ h. there (or_cases (member gone j) _ (sym (is j) ∙ h)))
@@ -64,18 +64,18 @@ module _ (n : ℕ) (rs : List Row) (rise : (i j : ℕ) → i < j → j < n → s
           let u = s.keeps j (and_left _ _ h) in
           earlier_in rs i j u.0 u.1 (omega (arith, s.end j u.0 u.1, ltb-true (get_or ends j 0) (start (at rs i)) (and_right (member kept j) _ h)))
 
-  pub ended_fill : Filled r n (earlier_than rs i)
+  pub ended_fill : Filled r (length rs) (earlier_than rs i)
   unfolding earlier_than
   ended_fill = record {
     low = λ j b. ended_is j;
     high = λ j b. ended_is j ∙ ap (λ (t : Bool). t && (committed (at rs j) && ltb (done (at rs j)) (start (at rs i)))) (le-ltb j i (omega arith));
   }
 
-  onward : (j : ℕ) → member r j ≡ true → (k : ℕ) → i + 1 ≤ k → k < n → earlier_than rs k j ≡ true
+  onward : (j : ℕ) → member r j ≡ true → (k : ℕ) → i + 1 ≤ k → k < length rs → earlier_than rs k j ≡ true
   onward j h k a b = let u = earlier_out rs i j (sym (ended_is j) ∙ h) in earlier_in rs k j (omega (arith, u.0)) u.1 (omega (arith, u.2, rise i k (omega arith) b))
 
   -- the row at i is active, or committed
-  pub ended-active : committed (at rs i) ≡ false → Ended n rs (i + 1) kept r ends
+  pub ended-active : committed (at rs i) ≡ false → Ended rs (i + 1) kept r ends
   ended-active f = record {
     len = s.len;
     keeps = λ j h. let u = s.keeps j h in (omega (arith, u.0), u.1);
@@ -88,7 +88,7 @@ module _ (n : ℕ) (rs : List Row) (rise : (i j : ℕ) → i < j → j < n → s
       other j b c (yes z) = absurd (false≢true (sym f ∙ ap (λ (k : ℕ). committed (at rs k)) z ∙ c))
       other j b c (no z) = omega arith
 
-  pub ended-commit : committed (at rs i) ≡ true → i < 32 → Ended n rs (i + 1) (bit_or kept (2 ^ i)) r (set ends i (done (at rs i)))
+  pub ended-commit : committed (at rs i) ≡ true → i < 32 → Ended rs (i + 1) (bit_or kept (2 ^ i)) r (set ends i (done (at rs i)))
   ended-commit c few = record {
     len = length-set ends i (done (at rs i)) ∙ s.len;
     keeps = λ j h. keeps j (or_cases (member kept j) _ (sym (member_with kept i j) ∙ h));

@@ -1,5 +1,6 @@
 -- The pass over the records: which rows it needs, and that it is the sentences on records. Assumes nothing.
 use Prim.Native.Nat.{ℕ, ◌*◌, ◌≤◌, ◌<◌}
+use native.Mathlib.Decide.{dec_lt}
 use native.Mathlib.Omega.{arith}
 use mathlib.Core.Bool.{Bool, true, false, ◌&&◌, ◌||◌, and-eq-true_iff}
 use mathlib.Core.Logic.{◌⊎◌, inl, inr}
@@ -51,7 +52,7 @@ module _ (count : ℕ) where
 
   module _ (r : Row) (rs : List Row) (k p : ℕ) (ps : List ℕ) where
     -- the row is below the record's transaction
-    pub filed_past : num r < txn (unpack p) → filed_from count (r ∷ rs) k (p ∷ ps) ≡ filed_from count rs k (p ∷ ps)
+    filed_past : num r < txn (unpack p) → filed_from count (r ∷ rs) k (p ∷ ps) ≡ filed_from count rs k (p ∷ ps)
     unfolding filed_from
     filed_past l =
         let other : eqb (num r) (txn (unpack p)) ≡ false = ne_eqb (num r) (txn (unpack p)) (λ e. omega arith) in
@@ -64,19 +65,22 @@ module _ (count : ℕ) where
     filed_own e =
         ap (λ (b : Bool). (b || mem (txn (unpack p)) (map num rs)) && (filed_after count k p && filed_from count (r ∷ rs) (key_of p) ps)) (eq-eqb (num r) (txn (unpack p)) e)
 
-    -- the record is of no row
-    pub filed_none : Ascend (r ∷ rs) → txn (unpack p) < num r → filed_from count (r ∷ rs) k (p ∷ ps) ≡ false
+    -- the record is not this row's: it is of a later one, or of none
+    pub filed_other : Ascend (r ∷ rs) → (num r ≡ txn (unpack p) → ⊥) → filed_from count (r ∷ rs) k (p ∷ ps) ≡ filed_from count rs k (p ∷ ps)
     unfolding filed_from
-    filed_none o l =
-        let none : mem (txn (unpack p)) (map num (r ∷ rs)) ≡ false
-        = ap (λ (b : Bool). b || mem (txn (unpack p)) (map num rs)) (ne_eqb (num r) (txn (unpack p)) (λ e. omega arith)) ∙ rest rs (and_left _ _ o) in
-        ap (λ (b : Bool). b && (filed_after count k p && filed_from count (r ∷ rs) (key_of p) ps)) none
+    filed_other o n = go (dec_lt (num r) (txn (unpack p)))
       where
-        rest : (qs : List Row) → all (λ b. ltb (num r) (num b)) qs ≡ true → mem (txn (unpack p)) (map num qs) ≡ false
-        rest [] h = refl
-        rest (q ∷ qs) h =
+        none : (qs : List Row) → txn (unpack p) < num r → all (λ b. ltb (num r) (num b)) qs ≡ true → mem (txn (unpack p)) (map num qs) ≡ false
+        none [] l h = refl
+        none (q ∷ qs) l h =
             ap (λ (b : Bool). b || mem (txn (unpack p)) (map num qs)) (ne_eqb (num q) (txn (unpack p)) (λ e. omega (arith, ltb-true (num r) (num q) (and_left _ _ h))))
-            ∙ rest qs (and_right (ltb (num r) (num q)) _ h)
+            ∙ none qs l (and_right (ltb (num r) (num q)) _ h)
+
+        go : Dec (num r < txn (unpack p)) → filed_from count (r ∷ rs) k (p ∷ ps) ≡ filed_from count rs k (p ∷ ps)
+        go (yes l) = filed_past l
+        go (no l) =
+            let miss : mem (txn (unpack p)) (map num rs) ≡ false = none rs (omega arith) (and_left _ _ o) in
+            rw (ne_eqb (num r) (txn (unpack p)) n, miss) refl
 
   pub filed_empty : (k p : ℕ) (ps : List ℕ) → filed_from count [] k (p ∷ ps) ≡ false
   unfolding filed_from

@@ -4,7 +4,7 @@ use native.Mathlib.Omega.{arith}
 use native.Mathlib.Nat.{div-lt_iff_lt-mul, pow-suc}
 use mathlib.Core.Bool.{true, false}
 use mathlib.Core.Path.{◌≡◌, ap, subst, ◌∙◌}
-use lib.Count.{count_leading_zeros, leading_top}
+use lib.Count.{leading_top}
 use lib.Dec.{eqb}
 use lib.Pow.{pow_pos}
 use Rattle.graph.specs.Sets.{digit, member}
@@ -12,9 +12,6 @@ use Rattle.graph.proofs.Sets.{member_past}
 use Rattle.sound.specs.Items.{top}
 
 -- it is in the set, and none above it is
-pub top_lt : (w m : ℕ) → 0 < m → m < 2 ^ w → count_leading_zeros w m < w
-top_lt w m p h = let u = leading_top w m p h in omega (arith, u.1)
-
 module _ (w m : ℕ) (p : 0 < m) (h : m < 2 ^ w) where
   pub top_in : member m (top w m) ≡ true
   unfolding member digit

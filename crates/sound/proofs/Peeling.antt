@@ -19,7 +19,7 @@ use Rattle.graph.proofs.Ranks.{rank, rank_forward}
 use Rattle.graph.proofs.Reachable.{acyclic, ringed-is}
 use Rattle.graph.proofs.Sets.{apart_out, member_lt, member-zero}
 use Rattle.graph.proofs.Tests.{failed, fails}
-use Rattle.sound.specs.Rings.{Peeled, Shed}
+use Rattle.sound.specs.Rings.{Shed}
 use Rattle.sound.proofs.Standing.{in_upfrom}
 
 module _ (e : Edges) where
@@ -31,9 +31,6 @@ module _ (e : Edges) where
 
   pub peel_start : {s : Nodes} {i : ℕ} → ((k : ℕ) → T (s k) → k < i) → Peeling s s i
   peel_start h = record { shed = λ d. d; less = λ k t. t; held = λ k l t. absurd (omega (arith, h k t)) }
-
-  pub peel_done : {s₀ s : Nodes} → Peeling s₀ s 0 → Peeled e s₀ s
-  peel_done p = record { shed = p.shed; held = λ i t. p.held i (omega arith) t }
 
   along : {s : Nodes} {a b : ℕ} → Shed e s → Way e a b → T (s b) → T (s a)
   along d Way.end t = t

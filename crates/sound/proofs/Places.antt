@@ -1,14 +1,13 @@
 -- Rows and records by their index: what stands there, and that rows by ascending number are known by it. Assumes nothing.
-use Prim.Native.Nat.{ℕ, zero, suc, ◌≤◌, ◌<◌}
+use Prim.Native.Nat.{ℕ, zero, suc, ◌<◌}
 use native.Mathlib.Omega.{arith}
 use native.Mathlib.Decide.{dec_lt}
 use mathlib.Core.Bool.{Bool, true}
-use mathlib.Core.Path.{◌≡◌, refl, sym, ap, subst, ◌∙◌}
+use mathlib.Core.Path.{◌≡◌, refl, sym, ap}
 use mathlib.Core.List.Memᴰ
 use mathlib.Core.List.{List, [], ◌∷◌, map}
 use lib.Dec.{ltb}
-use lib.ListN.{length, get_or, take, length-map, length-take}
-use lib.Seq.{get_or-take}
+use lib.ListN.{length, get_or, length-map}
 use borrow.Author.Tests.{ltb-true}
 use Rattle.terms.specs.declared.Row.{Row}
 use Rattle.terms.specs.Words.{num, start}
@@ -32,41 +31,28 @@ stands_at d (x ∷ xs) zero l = Memᴰ.head refl
 stands_at d (x ∷ xs) (suc i) l = Memᴰ.tail (stands_at d xs i (omega arith))
 
 -- what holds of each with every later one holds by index
-pub pairs-at : {A : Type 0} (f : A → A → Bool) (d : A) (xs : List A) → pairs f xs ≡ true → (i j : ℕ) → i < j → j < length xs → f (get_or xs i d) (get_or xs j d) ≡ true
+pairs-at : {A : Type 0} (f : A → A → Bool) (d : A) (xs : List A) → pairs f xs ≡ true → (i j : ℕ) → i < j → j < length xs → f (get_or xs i d) (get_or xs j d) ≡ true
 pairs-at f d [] o i j l b = absurd (omega arith)
 pairs-at f d (x ∷ xs) o zero zero l b = absurd (omega arith)
 pairs-at f d (x ∷ xs) o zero (suc j) l b = all_out (f x) (stands_at d xs j (omega arith)) (and_left _ _ o)
 pairs-at f d (x ∷ xs) o (suc i) zero l b = absurd (omega arith)
 pairs-at f d (x ∷ xs) o (suc i) (suc j) l b = pairs-at f d xs (and_right (all (f x) xs) _ o) i j (omega arith) (omega arith)
 
-pub start-at : (n : ℕ) (rs : List Row) → n ≤ length rs → rises (take n rs) ≡ true → (i j : ℕ) → i < j → j < n → start (at rs i) < start (at rs j)
-start-at n rs h r i j l b =
-    let q = pairs-at (λ a b. ltb (start a) (start b)) zero_row (take n rs) r i j l (omega (arith, length-take n rs)) in
-    omega (arith, ltb-true (start (at (take n rs) i)) (start (at (take n rs) j)) q, ap start (get_or-take n rs i zero_row (omega arith)), ap start (get_or-take n rs j zero_row b))
+pub start-at : (rs : List Row) → rises rs ≡ true → (i j : ℕ) → i < j → j < length rs → start (at rs i) < start (at rs j)
+start-at rs r i j l b = ltb-true (start (at rs i)) (start (at rs j)) (pairs-at (λ a b. ltb (start a) (start b)) zero_row rs r i j l b)
 
--- the same of the first n
-module _ {A : Type 0} (d : A) (n : ℕ) (xs : List A) (h : n ≤ length xs) where
-  pub index_in : {x : A} → x ∈ take n xs → (i : ℕ) × (i < n) × (get_or xs i d ≡ x)
-  index_in m =
-      let u = index_of d (take n xs) m in
-      let l : u.0 < n = omega (arith, u.1, length-take n xs) in
-      (u.0, l, sym (get_or-take n xs u.0 d l) ∙ u.2)
-
-  pub in_index : (i : ℕ) → i < n → get_or xs i d ∈ take n xs
-  in_index i l = subst (λ (x : A). x ∈ take n xs) (get_or-take n xs i d l) (stands_at d (take n xs) i (omega (arith, length-take n xs)))
-
-nums_at : (rs : List Row) (i : ℕ) → get_or (map num rs) i 0 ≡ num (at rs i)
+pub nums_at : (rs : List Row) (i : ℕ) → get_or (map num rs) i 0 ≡ num (at rs i)
 nums_at [] i = refl
 nums_at (r ∷ rs) zero = refl
 nums_at (r ∷ rs) (suc i) = nums_at rs i
 
-module _ (n : ℕ) (rs : List Row) (h : n ≤ length rs) (o : Ascend (take n rs)) where
-  pub row_rising : (i j : ℕ) → i < j → j < n → num (at rs i) < num (at rs j)
+module _ (rs : List Row) (o : Ascend rs) where
+  pub row_rising : (i j : ℕ) → i < j → j < length rs → num (at rs i) < num (at rs j)
   row_rising i j l b =
-      let r = ascend_at (map num (take n rs)) (pairs-num (take n rs) o) i j l (omega (arith, length-map (take n rs) num, length-take n rs)) in
-      omega (arith, r, nums_at (take n rs) i, nums_at (take n rs) j, ap num (get_or-take n rs i (at [] 0) (omega arith)), ap num (get_or-take n rs j (at [] 0) b))
+      let r = ascend_at (map num rs) (pairs-num rs o) i j l (omega (arith, length-map rs num)) in
+      omega (arith, r, nums_at rs i, nums_at rs j)
 
-  pub row_one : (i j : ℕ) → i < n → j < n → num (at rs i) ≡ num (at rs j) → i ≡ j
+  pub row_one : (i j : ℕ) → i < length rs → j < length rs → num (at rs i) ≡ num (at rs j) → i ≡ j
   row_one i j a b e = go (dec_lt i j) (dec_lt j i)
     where
       go : Dec (i < j) → Dec (j < i) → i ≡ j
@@ -74,15 +60,10 @@ module _ (n : ℕ) (rs : List Row) (h : n ≤ length rs) (o : Ascend (take n rs)
       go (no l) (yes q) = absurd (omega (arith, row_rising j i q a))
       go (no l) (no q) = omega arith
 
-  pub row_order : (i j : ℕ) → i < n → j < n → num (at rs i) < num (at rs j) → i < j
+  pub row_order : (i j : ℕ) → i < length rs → j < length rs → num (at rs i) < num (at rs j) → i < j
   row_order i j a b e = go (dec_lt i j) (dec_lt j i)
     where
       go : Dec (i < j) → Dec (j < i) → i < j
       go (yes l) q = l
       go (no l) (yes q) = absurd (omega (arith, row_rising j i q a))
       go (no l) (no q) = let z : i ≡ j = omega arith in absurd (omega (arith, ap (λ (k : ℕ). num (at rs k)) z))
-
--- the numbers of the first n rows, as a table
-pub numbers_at : (n : ℕ) (rs : List Row) (ns : List ℕ) → take n ns ≡ map num (take n rs) → (i : ℕ) → i < n → get_or ns i 0 ≡ num (at rs i)
-numbers_at n rs ns e i l =
-    sym (get_or-take n ns i 0 l) ∙ ap (λ (xs : List ℕ). get_or xs i 0) e ∙ nums_at (take n rs) i ∙ ap num (get_or-take n rs i (at [] 0) l)

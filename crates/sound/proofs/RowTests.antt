@@ -1,33 +1,19 @@
--- The pass over the rows and its turns; and that it, with distinct moments, is the sentences on rows. Assumes nothing.
-use Prim.Native.Nat.{ℕ, zero, suc, ◌+◌, ◌≤◌, ◌<◌}
+-- Of rows that pass: what is left passes too, and once one started after a commit, all that are left have their moments after it. Assumes nothing.
+use Prim.Native.Nat.{ℕ, zero, suc, ◌≤◌, ◌<◌}
 use native.Mathlib.Omega.{arith}
-use mathlib.Core.Bool.{Bool, true, false, not, ◌&&◌, ◌||◌, and-eq-true_iff}
+use mathlib.Core.Bool.{true, false, not, ◌&&◌, ◌||◌, and-eq-true_iff}
 use mathlib.Core.Logic.{◌⊎◌, inl, inr}
 use mathlib.Core.Path.{◌≡◌, refl, ap, ◌∙◌}
 use mathlib.Core.List.{List, [], ◌∷◌}
 use lib.Dec.{eqb, ltb}
-use lib.ListN.{length, get_or, take, drop}
+use lib.ListN.{length, get_or, drop}
 use borrow.Author.Tests.{eqb-false, eqb-true, ltb-true, ne_eqb}
 use Rattle.terms.specs.declared.Row.{Row}
 use Rattle.terms.specs.Words.{active, done, num, start}
 use Rattle.rules.specs.Lists.{all}
 use Rattle.rules.specs.Raw.{zero_row}
 use Rattle.laws.proofs.Lists.{and_both, and_left, and_right, or_cases, or_left, or_right, passed}
-use Rattle.lists.proofs.Scans.{Going, part_next, part_here, part_done}
 use Rattle.sound.specs.Rows.{apart_from, ends_well, fine_from, fine_row}
-
-module _ (next moment n : ℕ) (rs : List Row) (h : n ≤ length rs) (k b : ℕ) {j : ℕ} {v : Bool} (s : Going (take n rs) (fine_from next moment k b) v j) where
-  pub fine_next : j < n → fine_row next moment k b (get_or rs j zero_row) ≡ true → Going (take n rs) (fine_from next moment (num (get_or rs j zero_row)) (start (get_or rs j zero_row))) v (j + 1)
-  unfolding fine_from
-  fine_next l e = part_next n rs h s zero_row (fine_from next moment (num (get_or rs j zero_row)) (start (get_or rs j zero_row))) l (λ ys. ap (λ (t : Bool). t && fine_from next moment (num (get_or rs j zero_row)) (start (get_or rs j zero_row)) ys) e)
-
-  pub fine_here : j < n → fine_row next moment k b (get_or rs j zero_row) ≡ false → false ≡ v
-  unfolding fine_from
-  fine_here l e = part_here n rs h s zero_row l (λ ys. ap (λ (t : Bool). t && fine_from next moment (num (get_or rs j zero_row)) (start (get_or rs j zero_row)) ys) e)
-
-  pub fine_end : n ≤ j → true ≡ v
-  unfolding fine_from
-  fine_end l = part_done n rs h s l
 
 -- ---- of rows that pass, those behind one that started after a's commit have all their moments after it
 module _ (next moment : ℕ) (a : Row) where
@@ -59,3 +45,10 @@ module _ (next moment : ℕ) (a : Row) where
       let v = simp and-eq-true_iff at t in
       and_both _ _ (after r d v.1.1.1.1) (all_after (num r) (start r) us (and_right (fine_row next moment n b r) _ h) (omega arith))
   rest-after n b (r ∷ us) (suc j) h l d = rest-after (num r) (start r) us j (and_right (fine_row next moment n b r) _ h) (omega arith) d
+
+-- ---- what is left passes too, behind the row before it
+pub fine-rest : (next moment n b : ℕ) (us : List Row) (i : ℕ) → fine_from next moment n b us ≡ true → (m : ℕ) × (c : ℕ) × (fine_from next moment m c (drop i us) ≡ true)
+unfolding fine_from
+fine-rest next moment n b us zero h = (n, b, h)
+fine-rest next moment n b [] (suc i) h = (n, b, refl)
+fine-rest next moment n b (r ∷ us) (suc i) h = fine-rest next moment (num r) (start r) us i (and_right (fine_row next moment n b r) _ h)

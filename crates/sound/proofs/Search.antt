@@ -1,24 +1,21 @@
--- A number looked for among ascending ones, by halves; and the numbers of rows as a table. Assumes nothing.
-use Prim.Native.Nat.{ℕ, zero, suc, ◌+◌, ◌≤◌, ◌<◌, zero-le}
-use native.Mathlib.Omega.{arith}
+-- A number looked for among the numbers of rows, which ascend. Assumes nothing.
+use Rattle.std.proofs.Common.{ℕ, zero, suc, ◌≤◌, ◌<◌, ◌≡◌, refl, sym, ap, ◌∙◌, arith, Bool, true, false, ◌||◌, List, [], ◌∷◌, map, length, get_or, Result, Ok, Err, MatchResult, lt-ltb, ltb, ltb-true, not, ne_eqb}
 use native.Mathlib.Decide.{dec_lt}
-use native.Mathlib.Numerals.{add-one}
-use mathlib.Core.Bool.{Bool, true, false, ◌||◌}
-use mathlib.Core.Path.{◌≡◌, refl, sym, ap, subst, ◌∙◌}
-use mathlib.Core.List.{List, [], ◌∷◌, ◌++◌, map, map-append}
-use lib.Dec.{ltb}
-use lib.ListN.{length, get_or, set, take, length-take}
-use lib.Seq.{get_or-take, take-suc, take-suc-set}
-use borrow.Author.Tests.{ltb-true, ne_eqb}
+use Rattle.std.specs.List.Sorted.{IsBinarySearchResult}
+use Rattle.std.specs.Ordering.{nat_cmp, ordering_index}
+use Rattle.std.specs.Result.{is_ok}
+use Rattle.std.proofs.Math.ListN.{length-map, get_or-map}
+use Rattle.std.proofs.lemmas.List.Sorted.{searched}
 use Rattle.terms.specs.declared.Row.{Row}
-use Rattle.terms.specs.Words.{num}
+use Rattle.terms.specs.Words.{num, row}
 use Rattle.rules.specs.Lists.{all, mem, pairs}
 use Rattle.rules.specs.State.{State}
 use Rattle.rules.specs.Sound.{based}
-use Rattle.rules.specs.Raw.{zero_row}
-use Rattle.laws.proofs.Lists.{all_out, and_left, and_right, mem_in}
+use Rattle.laws.proofs.Lists.{all_out, and_both, and_left, and_right, mem_in}
+use Rattle.laws.proofs.Rows.{Ascend, pairs-num}
 use Rattle.laws.proofs.Tables.{get_or-mem}
-use Rattle.sound.specs.Base.{based_on}
+use Rattle.sound.specs.Base.{based_on, fair}
+use Rattle.sound.specs.Items.{at}
 
 -- a number that stands at no index
 mem-none : (w : ℕ) (xs : List ℕ) → ((k : ℕ) → k < length xs → get_or xs k 0 ≡ w → ⊥) → mem w xs ≡ false
@@ -33,64 +30,50 @@ ascend_at (x ∷ xs) o zero (suc j) l b = ltb-true x (get_or xs j 0) (all_out (l
 ascend_at (x ∷ xs) o (suc i) zero l b = absurd (omega arith)
 ascend_at (x ∷ xs) o (suc i) (suc j) l b = ascend_at xs (and_right (all (ltb x) xs) _ o) i j (omega arith) (omega arith)
 
--- of the first n numbers, those below the index low are below w, and those from high on above it
-pub record Searching (n w : ℕ) (xs : List ℕ) (low high : ℕ) : Type 0 where
-  pub order : low ≤ high
-  pub most : high ≤ n
-  pub below : (k : ℕ) → k < low → get_or xs k 0 < w
-  pub above : (k : ℕ) → high ≤ k → k < n → w < get_or xs k 0
-
-pub search_start : (n w : ℕ) (xs : List ℕ) → Searching n w xs 0 n
-search_start n w xs = record { order = zero-le; most = omega arith; below = λ k l. absurd (omega arith); above = λ k l b. absurd (omega arith) }
-
-module _ (n w : ℕ) (xs : List ℕ) (h : n ≤ length xs) where
-  module _ (o : pairs ltb (take n xs) ≡ true) where
-    rising : (i j : ℕ) → i < j → j < n → get_or xs i 0 < get_or xs j 0
-    rising i j l b =
-        let r = ascend_at (take n xs) o i j l (omega (arith, length-take n xs)) in
-        omega (arith, get_or-take n xs i 0 (omega arith), get_or-take n xs j 0 b)
-
-    module _ {low high : ℕ} (s : Searching n w xs low high) (mid : ℕ) (l : low ≤ mid) (b : mid < high) where
-      pub search_low : get_or xs mid 0 < w → Searching n w xs (mid + 1) high
-      search_low e = record { order = omega arith; most = s.most; below = λ k q. go k q (dec_lt k mid); above = s.above }
-        where
-          go : (k : ℕ) → k < mid + 1 → Dec (k < mid) → get_or xs k 0 < w
-          go k q (yes r) = omega (arith, rising k mid r (omega (arith, s.most)))
-          go k q (no r) = let z : mid ≡ k = omega arith in subst (λ (i : ℕ). get_or xs i 0 < w) z e
-
-      pub search_high : w < get_or xs mid 0 → Searching n w xs low mid
-      search_high e = record { order = l; most = omega (arith, s.most); below = s.below; above = λ k q r. go k q r (dec_lt mid k) }
-        where
-          go : (k : ℕ) → mid ≤ k → k < n → Dec (mid < k) → w < get_or xs k 0
-          go k q r (yes d) = omega (arith, rising mid k d r)
-          go k q r (no d) = let z : mid ≡ k = omega arith in subst (λ (i : ℕ). w < get_or xs i 0) z e
-
-  pub search_here : (mid : ℕ) → mid < n → get_or xs mid 0 ≡ w → true ≡ mem w (take n xs)
-  search_here mid l e =
-      sym (ap (λ (k : ℕ). mem k (take n xs)) (sym e ∙ sym (get_or-take n xs mid 0 l)) ∙ mem_in (get_or (take n xs) mid 0) (take n xs) (get_or-mem (take n xs) mid (omega (arith, length-take n xs))))
-
-  pub search_none : {low high : ℕ} → Searching n w xs low high → high ≤ low → false ≡ mem w (take n xs)
-  search_none {low} {high} s l = sym (mem-none w (take n xs) (λ k b e. go k (omega (arith, length-take n xs)) (sym (get_or-take n xs k 0 (omega (arith, length-take n xs))) ∙ e) (dec_lt k low)))
+-- ---- a number looked for among rows by ascending number
+module _ (rs : List Row) (w : ℕ) where
+  -- the search by number is one of the rows' numbers
+  by_number : (r : Result ℕ ℕ) → IsBinarySearchResult (λ y. nat_cmp (num y) w) rs r → IsBinarySearchResult (λ n. nat_cmp n w) (map num rs) r
+  by_number (Ok i) h = λ d. ap (λ (n : ℕ). nat_cmp n w) (get_or-map num rs i (row d 0 0)) ∙ h (row d 0 0)
+  by_number (Err i) h = λ up.
+      let p = h (λ i j d l b. go i j d (up i j (num d) l (omega (arith, length-map rs num)))) in (
+        λ k d l b. ap (λ (n : ℕ). nat_cmp n w) (get_or-map num rs k (row d 0 0)) ∙ p.0 k (row d 0 0) l b,
+        λ k d l b. ap (λ (n : ℕ). nat_cmp n w) (get_or-map num rs k (row d 0 0)) ∙ p.1 k (row d 0 0) l (omega (arith, length-map rs num)),
+      )
     where
-      go : (k : ℕ) → k < n → get_or xs k 0 ≡ w → Dec (k < low) → ⊥
-      go k b e (yes q) = omega (arith, s.below k q)
-      go k b e (no q) = omega (arith, s.above k (omega arith) b)
+      go : (i j : ℕ) (d : Row) → ordering_index (nat_cmp (get_or (map num rs) i (num d)) w) ≤ ordering_index (nat_cmp (get_or (map num rs) j (num d)) w)
+          → ordering_index (nat_cmp (num (get_or rs i d)) w) ≤ ordering_index (nat_cmp (num (get_or rs j d)) w)
+      go i j d l = rw (← get_or-map num rs i d, ← get_or-map num rs j d) l
 
-  -- a number below the first of them, and one among none
-  pub below_first : pairs ltb (take n xs) ≡ true → 0 < n → w < get_or xs 0 0 → false ≡ mem w (take n xs)
-  below_first o l b = search_none (search_high o (search_start n w xs) 0 (omega arith) l b) (omega arith)
+  pub found : Ascend rs → (r : Result ℕ ℕ) → IsBinarySearchResult (λ y. nat_cmp (num y) w) rs r → is_ok r ≡ mem w (map num rs)
+  found o r h = go r (searched (map num rs) w r (by_number r h) rising)
+    where
+      rising : (i j : ℕ) → i ≤ j → j < length (map num rs) → get_or (map num rs) i 0 ≤ get_or (map num rs) j 0
+      rising i j l b = step (dec_lt i j)
+        where
+          step : Dec (i < j) → get_or (map num rs) i 0 ≤ get_or (map num rs) j 0
+          step (yes q) = omega (arith, ascend_at (map num rs) (pairs-num rs o) i j q b)
+          step (no q) = let z : i ≡ j = omega arith in omega (arith, ap (λ (k : ℕ). get_or (map num rs) k 0) z)
 
-  pub among_none : n ≡ 0 → false ≡ mem w (take n xs)
-  among_none e = search_none (search_start n w xs) (omega arith)
+      go : (r : Result ℕ ℕ) → MatchResult r (λ i. (i < length (map num rs)) × (get_or (map num rs) i 0 ≡ w)) (λ i. (i ≤ length (map num rs)) × ((k : ℕ) → k < i → get_or (map num rs) k 0 < w) × ((k : ℕ) → i ≤ k → k < length (map num rs) → w < get_or (map num rs) k 0))
+          → is_ok r ≡ mem w (map num rs)
+      go (Ok i) u = sym (ap (λ (k : ℕ). mem k (map num rs)) (sym u.1) ∙ mem_in (get_or (map num rs) i 0) (map num rs) (get_or-mem (map num rs) i u.0))
+      go (Err i) u = sym (mem-none w (map num rs) (λ k b e. side k b e (dec_lt k i)))
+        where
+          side : (k : ℕ) → k < length (map num rs) → get_or (map num rs) k 0 ≡ w → Dec (k < i) → ⊥
+          side k b e (yes q) = omega (arith, u.1 k q)
+          side k b e (no q) = omega (arith, u.2 k (omega arith) b)
 
--- ---- the numbers of the first rows, written one by one
-pub numbers_next : (rs : List Row) (out : List ℕ) (j : ℕ) → j < length rs → j < length out → take j out ≡ map num (take j rs)
-    → take (j + 1) (set out j (num (get_or rs j zero_row))) ≡ map num (take (j + 1) rs)
-numbers_next rs out j l b e =
-    rw (add-one j) (take-suc-set out j (num (get_or rs j zero_row)) b
-    ∙ ap (λ (ns : List ℕ). ns ++ (num (get_or rs j zero_row) ∷ [])) e
-    ∙ sym (map-append num (take j rs) (get_or rs j zero_row ∷ []))
-    ∙ ap (map num) (sym (take-suc rs j zero_row l)))
+-- a number below the next and the first row's is a fair writer
+pub lowest_fair : (next low : ℕ) (rs : List Row) → Ascend rs → low ≤ next → (0 < length rs → low ≤ num (at rs 0)) → (w : ℕ) → w < low → fair next (map num rs) w ≡ true
+lowest_fair next low [] o b f w l = and_both _ _ (lt-ltb w next (omega arith)) refl
+lowest_fair next low (r ∷ rs) o b f w l =
+    let none : mem w (map num (r ∷ rs)) ≡ false = mem-none w (map num (r ∷ rs)) (λ k c e. side k c e (dec_lt 0 k)) in
+    and_both _ _ (lt-ltb w next (omega arith)) (ap not none)
+  where
+    side : (k : ℕ) → k < length (map num (r ∷ rs)) → get_or (map num (r ∷ rs)) k 0 ≡ w → Dec (0 < k) → ⊥
+    side k c e (yes q) = omega (arith, f (omega arith), ascend_at (map num (r ∷ rs)) (pairs-num (r ∷ rs) o) 0 k q c)
+    side k c e (no q) = let z : k ≡ 0 = omega arith in omega (arith, f (omega arith), ap (λ (i : ℕ). get_or (map num (r ∷ rs)) i 0) z)
 
 -- the sentence, over the numbers of the state's rows
 pub based-is : (s : State) → based_on s.next (map num s.rows) s.writers ≡ based s

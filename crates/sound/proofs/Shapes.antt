@@ -4,19 +4,19 @@ use native.Mathlib.Omega.{arith}
 use mathlib.Core.Bool.{Bool, true, false, cond, ◌&&◌, and-eq-true_iff}
 use mathlib.Core.Path.{◌≡◌, refl, sym, ap, ◌∙◌}
 use mathlib.Core.List.{List, [], ◌∷◌, ◌++◌}
-use lib.Dec.{leb}
+use lib.Dec.{eqb, leb}
 use lib.ListN.{length, get_or, take, drop, replicate, length-take, length-drop, length-map, take-append-drop}
 use borrow.Author.Tests.{eq-eqb, eqb-true, le-leb, leb-true}
 use Rattle.terms.specs.declared.Row.{Row}
 use Rattle.terms.specs.Words.{done, num, start}
 use Rattle.rules.specs.Lists.{all, padded}
 use Rattle.rules.specs.Sound.{sized}
-use Rattle.rules.specs.Raw.{Raw, pack, raw_of, same_raw, state_of, unpack, used_recs, zero_row}
+use Rattle.rules.specs.Raw.{Raw, pack, raw_of, state_of, unpack, used_recs, zero_row}
 use Rattle.lists.specs.Tables.{first_index}
 use Rattle.lists.proofs.Pads.{length-padded}
 use Rattle.lists.proofs.Untils.{length-until, until_first}
-use Rattle.laws.proofs.Lists.{and_both, and_left, and_right, both_ways}
-use Rattle.laws.proofs.Raw.{pack-unpack, same_in, same_out}
+use Rattle.laws.proofs.Lists.{and_both, and_left, and_right}
+use Rattle.laws.proofs.Raw.{pack-unpack}
 use Rattle.laws.proofs.Sames.{map_back}
 use Rattle.laws.proofs.Tables.{all_replicate}
 use Rattle.sound.specs.Shape.{is_zero, no_row, shaped, zeroed}
@@ -37,16 +37,16 @@ module _ {A : Type 0} (p : A → Bool) (z : A) (is : (x : A) → p x ≡ true �
   filled (x ∷ xs) h = λ j. is x (and_left _ _ h) j ∷ filled xs (and_right (p x) _ h) j
 
   -- it is the padded form of its first k elements
-  pub fills : (n k : ℕ) (xs : List A) → length xs ≡ n → k ≤ n → all p (drop k xs) ≡ true → padded n z (take k xs) ≡ xs
+  fills : (n k : ℕ) (xs : List A) → length xs ≡ n → k ≤ n → all p (drop k xs) ≡ true → padded n z (take k xs) ≡ xs
   fills n k xs l b h =
       let long : length (drop k xs) ≡ n - length (take k xs) = omega (arith, length-drop k xs, length-take k xs) in
       let rest : drop k xs ≡ replicate (n - length (take k xs)) z = filled (drop k xs) h ∙ ap (λ (i : ℕ). replicate i z) long in
       ap (λ (ys : List A). take k xs ++ ys) (sym rest) ∙ take-append-drop k xs
 
-  pub filled_long : (n k : ℕ) (xs : List A) → k ≤ n → padded n z (take k xs) ≡ xs → length xs ≡ n
+  filled_long : (n k : ℕ) (xs : List A) → k ≤ n → padded n z (take k xs) ≡ xs → length xs ≡ n
   filled_long n k xs b e = ap length (sym e) ∙ length-padded n z (take k xs) (omega (arith, length-take k xs))
 
-  pub filled_out : (n k : ℕ) (xs : List A) → k ≤ n → padded n z (take k xs) ≡ xs → all p (drop k xs) ≡ true
+  filled_out : (n k : ℕ) (xs : List A) → k ≤ n → padded n z (take k xs) ≡ xs → all p (drop k xs) ≡ true
   filled_out n k xs b e =
       let l = filled_long n k xs b e in
       let len : length (take k xs) ≡ k = omega (arith, length-take k xs) in
@@ -100,23 +100,24 @@ module _ (n m : ℕ) (w : Raw) where
   unfolding state_of
   few_recs = length-map (used_recs w.recs) unpack ∙ length-until is_zero w.recs
 
-  pub shape_same : length w.rows ≡ n → shaped 256 n m used filed w ≡ true → raw_of n m (state_of w) ≡ w
+  pub shape_same : shaped 256 n m used filed w ≡ true → raw_of n m (state_of w) ≡ w
   unfolding shaped raw_of state_of
-  shape_same l h =
+  shape_same h =
       let v = simp and-eq-true_iff at h in
-      let count = leb-true (get_or w.head 0 0) 256 v.1.0 in
+      let count = leb-true (get_or w.head 0 0) 256 v.1.1.1.1.1.0 in
       let hd = three w.head (eqb-true _ _ v.0) in
-      let vs = fills is_zero 0 (λ x e. eqb-true x 0 e) refl 256 (get_or w.head 0 0) w.values (eqb-true _ _ v.1.1.0) count v.1.1.1.1.1.0 in
-      let ws = fills is_zero 0 (λ x e. eqb-true x 0 e) refl 256 (get_or w.head 0 0) w.writers (eqb-true _ _ v.1.1.1.0) count v.1.1.1.1.1.1.0 in
-      let rs = rows_back ∙ fills zeroed zero_row zeroed_out zero-zeroed n used w.rows l (omega (arith, first_most no_row w.rows)) v.1.1.1.1.1.1.1.0 in
+      let vs = fills is_zero 0 (λ x e. eqb-true x 0 e) refl 256 (get_or w.head 0 0) w.values (eqb-true _ _ v.1.0) count v.1.1.1.1.1.1.0 in
+      let ws = fills is_zero 0 (λ x e. eqb-true x 0 e) refl 256 (get_or w.head 0 0) w.writers (eqb-true _ _ v.1.1.0) count v.1.1.1.1.1.1.1.0 in
+      let rs = rows_back ∙ fills zeroed zero_row zeroed_out zero-zeroed n used w.rows (eqb-true _ _ v.1.1.1.0) (omega (arith, first_most no_row w.rows, eqb-true (length w.rows) n v.1.1.1.0)) v.1.1.1.1.1.1.1.1.0 in
       let long : length w.recs ≡ m = eqb-true _ _ v.1.1.1.1.0 in
-      let ps = recs_back ∙ fills is_zero 0 (λ x e. eqb-true x 0 e) refl m filed w.recs long (omega (arith, first_most is_zero w.recs)) v.1.1.1.1.1.1.1.1 in
+      let ps = recs_back ∙ fills is_zero 0 (λ x e. eqb-true x 0 e) refl m filed w.recs long (omega (arith, first_most is_zero w.recs)) v.1.1.1.1.1.1.1.1.1 in
       λ j. record { head = hd j; values = vs j; writers = ws j; rows = rs j; recs = ps j }
 
-  pub shape_sized : length w.rows ≡ n → shaped 256 n m used filed w ≡ true → sized n m (state_of w) ≡ true
+  pub shape_sized : shaped 256 n m used filed w ≡ true → sized n m (state_of w) ≡ true
   unfolding shaped sized
-  shape_sized l h =
+  shape_sized h =
       let v = simp and-eq-true_iff at h in
+      let l : length w.rows ≡ n = eqb-true _ _ v.1.1.1.0 in
       let long : length w.recs ≡ m = eqb-true _ _ v.1.1.1.1.0 in
       and_both _ _ (le-leb (length (state_of w).rows) n (omega (arith, few_rows, first_most no_row w.rows))) (le-leb (length (state_of w).recs) m (omega (arith, few_recs, first_most is_zero w.recs)))
 
@@ -132,22 +133,21 @@ module _ (n m : ℕ) (w : Raw) where
       let ps = sym recs_back ∙ ap (λ (v : Raw). v.recs) e in
       let zero : (x : ℕ) → is_zero x ≡ true → x ≡ 0 = λ x q. eqb-true x 0 q in
       and_both _ _ (eq-eqb _ _ (sym (ap (λ (v : Raw). length v.head) e)))
-      (and_both _ _ (le-leb _ _ b)
       (and_both _ _ (eq-eqb _ _ (filled_long is_zero 0 zero refl 256 count w.values b vs))
       (and_both _ _ (eq-eqb _ _ (filled_long is_zero 0 zero refl 256 count w.writers b ws))
+      (and_both _ _ (eq-eqb _ _ (filled_long zeroed zero_row zeroed_out zero-zeroed n used w.rows fr rs))
       (and_both _ _ (eq-eqb _ _ (filled_long is_zero 0 zero refl m filed w.recs fp ps))
+      (and_both _ _ (le-leb _ _ b)
       (and_both _ _ (filled_out is_zero 0 zero refl 256 count w.values b vs)
       (and_both _ _ (filled_out is_zero 0 zero refl 256 count w.writers b ws)
       (and_both _ _ (filled_out zeroed zero_row zeroed_out zero-zeroed n used w.rows fr rs)
-      (filled_out is_zero 0 zero refl m filed w.recs fp ps))))))))
+      (filled_out is_zero 0 zero refl m filed w.recs fp ps)))))))))
 
-  small : shaped 256 n m used filed w ≡ true → (state_of w).count ≤ 256
+  pub small : shaped 256 n m used filed w ≡ true → (state_of w).count ≤ 256
   unfolding shaped state_of
-  small h = let v = simp and-eq-true_iff at h in leb-true (get_or w.head 0 0) 256 v.1.0
+  small h = let v = simp and-eq-true_iff at h in leb-true (get_or w.head 0 0) 256 v.1.1.1.1.1.0
 
-  -- the equation: lengths and zeros, with the sizes and the count in range, say that the tables are the padded form of their own state
-  pub shape_is : length w.rows ≡ n → shaped 256 n m used filed w ≡ (same_raw (raw_of n m (state_of w)) w && (sized n m (state_of w) && leb (state_of w).count 256))
-  shape_is l =
-      both_ways _ _
-      (λ h. and_both _ _ (ap (λ (v : Raw). same_raw v w) (shape_same l h) ∙ same_in w) (and_both _ _ (shape_sized l h) (le-leb (state_of w).count 256 (small h))))
-      (λ h. let z = and_right (same_raw (raw_of n m (state_of w)) w) _ h in shape_in (same_out _ _ (and_left _ _ h)) (and_left _ _ z) (leb-true (state_of w).count 256 (and_right (sized n m (state_of w)) _ z)))
+-- ---- the rows behind the used ones, compared with the free row
+pub rows-clear : (z : Row) → z ≡ zero_row → (rs : List Row) → all (λ r. eqb (num r) (num z) && (eqb (start r) (start z) && eqb (done r) (done z))) rs ≡ all zeroed rs
+unfolding zeroed
+rows-clear z e rs = ap (λ (z : Row). all (λ r. eqb (num r) (num z) && (eqb (start r) (start z) && eqb (done r) (done z))) rs) e

@@ -26,7 +26,7 @@ regroup true true false d e = refl
 regroup true false c d e = refl
 regroup false b c d e = refl
 
-module _ (n m : ℕ) (w : Raw) (l : length w.rows ≡ n) where
+module _ (n m : ℕ) (w : Raw) where
   chain : (tested_raw n m w && (not (ring (state_of w)) && lean (state_of w))) ≡ sound_raw n m w
   unfolding tested_raw sound_raw sound lawful
   chain = regroup (same_raw (raw_of n m (state_of w)) w) (sized n m (state_of w)) (tested (state_of w)) (not (ring (state_of w))) (lean (state_of w))
@@ -43,7 +43,7 @@ module _ (n m : ℕ) (w : Raw) (l : length w.rows ≡ n) where
     unfolding state_of
     holds = record { rows = refl; recs = refl }
 
-    module _ (g : List ℕ) (k : EdgesTold n w.rows w.recs g) where
+    module _ (l : length w.rows ≡ n) (g : List ℕ) (k : EdgesTold n w.rows w.recs g) where
       rings : any (ringed n (in_table g)) (upfrom 0 n) ≡ ring (state_of w)
       rings =
           ring-is (state_of w) passed-tests g (k.is (state_of w) passed-tests holds) n (omega (arith, few_rows n m w, first_most no_row w.rows))

@@ -7,7 +7,7 @@ use mathlib.Core.Path.{◌≡◌, sym, ap, ◌∙◌}
 use mathlib.Core.List.Memᴰ
 use mathlib.Core.List.{List, [], ◌∷◌}
 use lib.Dec.{eqb, leb, ltb}
-use lib.ListN.{length, take}
+use lib.ListN.{length}
 use borrow.Author.Tests.{eq-eqb, eqb-false, eqb-true, leb-true, lt-ltb, ltb-true, not-true}
 use Rattle.terms.specs.declared.Row.{Row}
 use Rattle.terms.specs.declared.Rec.{Rec}
@@ -22,7 +22,7 @@ use Rattle.laws.proofs.Versions.{recorded_in, recorded_out}
 use Rattle.sound.specs.Items.{at, installs}
 use Rattle.sound.specs.Parts.{held}
 use Rattle.sound.specs.Rows.{ascends, rises}
-use Rattle.sound.proofs.Places.{in_index, row_rising}
+use Rattle.sound.proofs.Places.{row_rising, stands_at}
 
 -- what is known of the rows of a state once the sentences on rows hold
 pub record Ranked (s : State) : Type 0 where
@@ -65,33 +65,33 @@ in_upfrom k (suc n) i a b = go (dec_lt k i) (λ l. in_upfrom (suc k) n i l (omeg
     go (yes l) f = Memᴰ.tail (f (omega arith))
     go (no l) f = let e : i ≡ k = omega arith in Memᴰ.head e
 
-module _ (count next moment n m : ℕ) (vs ws : List ℕ) (rs : List Row) (ps : List ℕ) (hn : n ≤ length rs) where
+module _ (count next moment : ℕ) (vs ws : List ℕ) (rs : List Row) (ps : List ℕ) where
   abbrev the_state : State
-  the_state = held count next moment vs ws (take n rs) (take m ps)
+  the_state = held count next moment vs ws rs ps
 
-  here : (i : ℕ) → i < n → at rs i ∈ take n rs
-  here i l = in_index zero_row n rs hn i l
+  here : (i : ℕ) → i < length rs → at rs i ∈ rs
+  here i l = stands_at zero_row rs i l
 
-  pub start_rising : Ranked (held count next moment vs ws (take n rs) (take m ps)) → (i j : ℕ) → i < j → j < n → start (at rs i) < start (at rs j)
+  pub start_rising : Ranked (held count next moment vs ws rs ps) → (i j : ℕ) → i < j → j < length rs → start (at rs i) < start (at rs j)
   start_rising k i j l b =
       ltb-true (start (at rs i)) (start (at rs j))
-      (pairs_out (λ a b. ltb (start a) (start b)) (take n rs) k.ascend k.rising (here i (omega arith)) (here j b) (row_rising n rs hn k.ascend i j l b))
+      (pairs_out (λ a b. ltb (start a) (start b)) rs k.ascend k.rising (here i (omega arith)) (here j b) (row_rising rs k.ascend i j l b))
 
-  -- the row at j is in the index of an item: it is one of the first n, committed, and wrote the item
-  pub installs_out : (e j : ℕ) → any (installs n rs e j) (take m ps) ≡ true → (j < n) × (committed (at rs j) ≡ true) × (wrote (held count next moment vs ws (take n rs) (take m ps)) (num (at rs j)) e ≡ true)
+  -- the row at j is in the index of an item: it is committed, and wrote the item
+  pub installs_out : (e j : ℕ) → any (installs rs e j) ps ≡ true → (j < length rs) × (committed (at rs j) ≡ true) × (wrote (held count next moment vs ws rs ps) (num (at rs j)) e ≡ true)
   unfolding installs
   installs_out e j h =
-      let u = any_out (installs n rs e j) (take m ps) h in
+      let u = any_out (installs rs e j) ps h in
       let p = u.0 in
       let v = simp and-eq-true_iff at u.2 in
-      (ltb-true j n v.0.0, v.0.1, recorded_in the_state (num (at rs j)) e 2 (Memᴰ.map unpack u.1) (sym (eqb-true (num (at rs j)) (txn (unpack p)) v.1.0)) (eqb-true (item (unpack p)) e v.1.1.0) (eqb-true (unpack p).kind 2 v.1.1.1))
+      (ltb-true j (length rs) v.0.0, v.0.1, recorded_in the_state (num (at rs j)) e 2 (Memᴰ.map unpack u.1) (sym (eqb-true (num (at rs j)) (txn (unpack p)) v.1.0)) (eqb-true (item (unpack p)) e v.1.1.0) (eqb-true (unpack p).kind 2 v.1.1.1))
 
-  pub installs_in : (e j : ℕ) → j < n → committed (at rs j) ≡ true → wrote (held count next moment vs ws (take n rs) (take m ps)) (num (at rs j)) e ≡ true → any (installs n rs e j) (take m ps) ≡ true
+  pub installs_in : (e j : ℕ) → j < length rs → committed (at rs j) ≡ true → wrote (held count next moment vs ws rs ps) (num (at rs j)) e ≡ true → any (installs rs e j) ps ≡ true
   unfolding installs
   installs_in e j l c h =
       let u = recorded_out the_state (num (at rs j)) e 2 h in
-      let v = Memᴰ.of_map unpack (take m ps) u.1 in
-      any_in (installs n rs e j) v.1
-      (and_both _ _ (and_both _ _ (lt-ltb j n l) c)
+      let v = Memᴰ.of_map unpack ps u.1 in
+      any_in (installs rs e j) v.1
+      (and_both _ _ (and_both _ _ (lt-ltb j (length rs) l) c)
       (and_both _ _ (eq-eqb (num (at rs j)) (txn (unpack v.0)) (sym (ap txn v.2 ∙ u.2)))
       (and_both _ _ (eq-eqb (item (unpack v.0)) e (ap item v.2 ∙ u.3)) (eq-eqb (unpack v.0).kind 2 (ap (λ (x : Rec). x.kind) v.2 ∙ u.4)))))

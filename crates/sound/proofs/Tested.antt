@@ -33,7 +33,7 @@ headed_out : (s : State) → headed s ≡ true → s.count ≤ 256
 unfolding headed
 headed_out s h = let v = simp and-eq-true_iff at h in leb-true s.count 256 v.0.0.0.0.1
 
-module _ (n m : ℕ) (w : Raw) (l : length w.rows ≡ n) (used filed : ℕ) (eu : used ≡ first_index no_row w.rows) (ef : filed ≡ first_index is_zero w.recs) where
+module _ (n m : ℕ) (w : Raw) (used filed : ℕ) (eu : used ≡ first_index no_row w.rows) (ef : filed ≡ first_index is_zero w.recs) where
   abbrev count : ℕ
   count = get_or w.head 0 0
 
@@ -50,19 +50,16 @@ module _ (n m : ℕ) (w : Raw) (l : length w.rows ≡ n) (used filed : ℕ) (eu 
   shape_at : shaped 256 n m used filed w ≡ shaped 256 n m (first_index no_row w.rows) (first_index is_zero w.recs) w
   shape_at = ap₂ (λ (a b : ℕ). shaped 256 n m a b w) eu ef
 
-  -- what the lengths say
-  pub record Lengths : Type 0 where
-    pub head : length w.head ≡ 3
-    pub small : get_or w.head 0 0 ≤ 256
-    pub values : length w.values ≡ 256
-    pub writers : length w.writers ≡ 256
-    pub recs : length w.recs ≡ m
+  record Lengths : Type 0 where
+    small : get_or w.head 0 0 ≤ 256
+    values : length w.values ≡ 256
+    writers : length w.writers ≡ 256
 
-  pub lengths : shaped 256 n m used filed w ≡ true → Lengths
+  lengths : shaped 256 n m used filed w ≡ true → Lengths
   unfolding shaped
   lengths h =
       let v = simp and-eq-true_iff at h in
-      record { head = eqb-true _ _ v.0; small = leb-true (get_or w.head 0 0) 256 v.1.0; values = eqb-true _ _ v.1.1.0; writers = eqb-true _ _ v.1.1.1.0; recs = eqb-true _ _ v.1.1.1.1.0 }
+      record { small = leb-true (get_or w.head 0 0) 256 v.1.1.1.1.1.0; values = eqb-true _ _ v.1.0; writers = eqb-true _ _ v.1.1.0 }
 
   abbrev rest : Bool
   rest = headed the_state && ((ascends the_state.rows && (numbered the_state && timed the_state)) && (sorted (take filed w.recs) && (owned the_state && (based the_state && (unmixed the_state && seen the_state)))))
@@ -104,7 +101,7 @@ module _ (n m : ℕ) (w : Raw) (l : length w.rows ≡ n) (used filed : ℕ) (eu 
       let hs = and_left (shaped 256 n m used filed w) rest h in
       let ht = passes hs (and_right (shaped 256 n m used filed w) rest h) in
       let hz = sym shape_at ∙ hs in
-      and_both _ _ (ap (λ (v : Raw). same_raw v w) (shape_same n m w l hz) ∙ same_in w) (and_both _ _ (shape_sized n m w l hz) (ap tested state-is ∙ ht)))
+      and_both _ _ (ap (λ (v : Raw). same_raw v w) (shape_same n m w hz) ∙ same_in w) (and_both _ _ (shape_sized n m w hz) (ap tested state-is ∙ ht)))
       (λ h.
       let e = same_out _ _ (and_left (same_raw (raw_of n m (state_of w)) w) _ h) in
       let r = and_right (same_raw (raw_of n m (state_of w)) w) _ h in
@@ -137,7 +134,7 @@ module _ (n m : ℕ) (w : Raw) (l : length w.rows ≡ n) (used filed : ℕ) (eu 
       tested_unrowed f = on hs (on (sym head-same ∙ hh) (off _ (sym rows_same ∙ f))) ∙ chain_is
 
       pub tested_linked : {b : Bool} → (ascends (take used w.rows) && (numbered (held 0 (get_or w.head 1 0) (get_or w.head 2 0) [] [] (take used w.rows) []) && timed (held 0 (get_or w.head 1 0) (get_or w.head 2 0) [] [] (take used w.rows) []))) ≡ true
-          → LinksTold count (get_or w.head 1 0) used filed w.writers w.rows w.recs b → b ≡ tested_raw n m w
+          → LinksTold count (get_or w.head 1 0) w.writers (take used w.rows) (take filed w.recs) b → b ≡ tested_raw n m w
       tested_linked f k =
           let g = sym rows_same ∙ f in
           let h = and_right (ascends the_state.rows) (numbered the_state && timed the_state) g in

@@ -1,5 +1,5 @@
 -- Sets of rows by row and by item, as words, and the sentences on items as tests of one record. Assumes nothing.
-use Rattle.std.specs.Prelude.{ℕ, suc, ◌-◌, Bool, ◌&&◌, cond, List, eqb, ltb, get_or}
+use Rattle.std.specs.Prelude.{ℕ, suc, ◌-◌, Bool, ◌&&◌, cond, List, eqb, ltb, get_or, length}
 use Rattle.std.specs.Int.Count.{count_leading_zeros}
 use Rattle.terms.specs.declared.Row.{Row}
 use Rattle.terms.specs.Words.{committed, done, is_write, item, num, start, txn}
@@ -13,9 +13,9 @@ at rs i = get_or rs i zero_row
 unfoldable pub earlier_than : List Row → ℕ → ℕ → Bool
 earlier_than rs i j = ltb j i && (committed (at rs j) && ltb (done (at rs j)) (start (at rs i)))
 
--- the record is a write of item e by the committed row at j, one of the first n
-unfoldable pub installs : ℕ → List Row → ℕ → ℕ → ℕ → Bool
-installs n rs e j p = (ltb j n && committed (at rs j)) && (eqb (num (at rs j)) (txn (unpack p)) && (eqb (item (unpack p)) e && is_write (unpack p)))
+-- the record is a write of item e by the committed row at j
+unfoldable pub installs : List Row → ℕ → ℕ → ℕ → Bool
+installs rs e j p = (ltb j (length rs) && committed (at rs j)) && (eqb (num (at rs j)) (txn (unpack p)) && (eqb (item (unpack p)) e && is_write (unpack p)))
 
 -- the record is a write, and its row is committed
 abbrev pub is_install : ℕ → Row → Bool

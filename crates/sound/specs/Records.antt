@@ -1,5 +1,5 @@
 -- The sentences on records as tests that go from record to record, and which row each record belongs to. Assumes nothing.
-use Rattle.std.specs.Prelude.{ℕ, ◌/◌, ◌^◌, ◌<◌, Bool, true, ◌&&◌, ◌≡◌, List, [], ◌∷◌, map, leb, ltb, get_or}
+use Rattle.std.specs.Prelude.{ℕ, ◌/◌, ◌^◌, ◌<◌, Bool, true, ◌&&◌, ◌≡◌, List, [], ◌∷◌, map, leb, ltb, get_or, length}
 use Rattle.terms.specs.declared.Row.{Row}
 use Rattle.terms.specs.Words.{item, key, num, txn}
 use Rattle.rules.specs.Lists.{mem, pairs}
@@ -22,7 +22,7 @@ unfoldable pub filed_from : ℕ → List Row → ℕ → List ℕ → Bool
 filed_from count rs k [] = true
 filed_from count rs k (p ∷ ps) = mem (txn (unpack p)) (map num rs) && (filed_after count k p && filed_from count rs (key_of p) ps)
 
--- each of the first m records belongs to the row of its index, one of the first n
-pub record Owners (n m : ℕ) (rs : List Row) (ps owners : List ℕ) : Type 0 where
-  pub inside : (j : ℕ) → j < m → get_or owners j 0 < n
+-- each of the first m records belongs to the row of its index
+pub record Owners (m : ℕ) (rs : List Row) (ps owners : List ℕ) : Type 0 where
+  pub inside : (j : ℕ) → j < m → get_or owners j 0 < length rs
   pub is : (j : ℕ) → j < m → num (get_or rs (get_or owners j 0) zero_row) ≡ txn (unpack (get_or ps j 0))

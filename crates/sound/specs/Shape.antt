@@ -24,11 +24,12 @@ raw head values writers rows recs = record { head = head; values = values; write
 unfoldable pub shaped : (c n m used filed : ℕ) → Raw → Bool
 shaped c n m used filed w =
     eqb (length w.head) 3
-    && (leb (get_or w.head 0 0) c
     && (eqb (length w.values) c
     && (eqb (length w.writers) c
+    && (eqb (length w.rows) n
     && (eqb (length w.recs) m
+    && (leb (get_or w.head 0 0) c
     && (all is_zero (drop (get_or w.head 0 0) w.values)
     && (all is_zero (drop (get_or w.head 0 0) w.writers)
     && (all zeroed (drop used w.rows)
-    && all is_zero (drop filed w.recs))))))))
+    && all is_zero (drop filed w.recs)))))))))

@@ -1,94 +1,46 @@
 // The writers in the value tables: below the next number, and of no row.
-ghost use Rattle.std.specs.Prelude.{◌≡◌, true, map, ℕ, ◌≤◌, ◌<◌, ltb, length, take};
+ghost use Rattle.std.specs.Prelude.{◌≡◌, true, map, ℕ, ◌<◌, ltb};
 ghost use Rattle.terms.specs.Words.{num};
-ghost use Rattle.rules.specs.Lists.{all, mem, pairs};
+ghost use Rattle.rules.specs.Lists.{all};
 ghost use Rattle.sound.specs.Base.{based_on, fair};
+ghost use Rattle.sound.specs.Rows.{ascends};
 
-use graph::ROWS;
 use terms::Row;
 
-// Writes the numbers of the used rows.
-pub fn numbers(rows: [Row; ROWS], used: usize, out: &mut [u32])
-    requires { (used ≤ ROWS) × (used ≤ length out.old) }
-    ensures { (length out.new ≡ length out.old) × (take used out.new ≡ map num (take used rows)) }
+// Is the writer below the next number, and no used row's?
+fn is_fair(next: u32, used: &[Row], w: u32) -> bool
+    requires { ascends used.now ≡ true }
+    ensures { result ≡ fair next (map num used.now) w }
 {
-    let mut j = 0;
-    while j < used {
-        let row = rows[j];
-        let n = row.number;
-        out[j] = n.0;
-        j += 1;
-    }
+    w < next && used.binary_search_by_key(&w, |r| r.number.0).is_err()
 }
 
-// Is w one of the first used numbers, which ascend? Those below low are below it, and those from high on above it.
-fn is_number(numbers: &[u32], used: usize, w: u32) -> bool
-    requires { (used ≤ length numbers.now) × (pairs ltb (take used numbers.now) ≡ true) }
-    ensures { result ≡ mem w (take used numbers.now) }
+// A number below which no writer is the next number or above it, nor one of the used rows': the lowest of these.
+fn lowest(next: u32, used: &[Row]) -> u32
+    requires { ascends used.now ≡ true }
+    ensures { (w : ℕ) → w < result → fair next (map num used.now) w ≡ true }
 {
-    let mut low = 0;
-    let mut high = used;
-    while low < high {
-        let mid = low + (high - low) / 2;
-        let n = numbers[mid];
-        if n == w {
-            return true;
-        }
-        if n < w {
-            low = mid + 1;
-        } else {
-            high = mid;
-        }
-    }
-    false
+    used.first().map_or(next, |r| next.min(r.number.0))
 }
 
-// A number below which no writer is the next number or above it, nor one of the first used numbers: the lowest of these.
-fn lowest(next: u32, numbers: &[u32], used: usize) -> u32
-    requires { (used ≤ length numbers.now) × (pairs ltb (take used numbers.now) ≡ true) }
-    ensures { (w : ℕ) → w < result → fair next (take used numbers.now) w ≡ true }
-{
-    if used == 0 {
-        return next;
-    }
-    let first = numbers[0];
-    if next < first {
-        return next;
-    }
-    first
-}
-
-// Are all below low? All are looked at, with no way out of the loop: the compiler then takes several at a time.
+// Are all below low? All are looked at, with no way out: the compiler then takes several at a time.
 fn are_below(part: &[u32], low: u32) -> bool
     ensures { result ≡ all (λ w. ltb w low) part.now }
 {
-    let mut b = true;
-    let mut e = 0;
-    while e < part.len() {
-        let w = part[e];
-        e += 1;
-        if low <= w {
-            b = false;
-        }
-    }
-    b
+    part.iter().fold(true, |below, w| below & (*w < low))
 }
 
-pub fn has_base(next: u32, numbers: &[u32], used: usize, writers: &[u32], count: usize) -> bool
-    requires { (used ≤ length numbers.now) × (pairs ltb (take used numbers.now) ≡ true) × (count ≤ length writers.now) }
-    ensures { result ≡ based_on next (take used numbers.now) (take count writers.now) }
+#[tactic(auto, unfolding(crate::specs::Base::based_on))]
+pub fn has_base(next: u32, used: &[Row], writers: &[u32]) -> bool
+    requires { ascends used.now ≡ true }
+    ensures { result ≡ based_on next (map num used.now) writers.now }
 {
-    if are_below(&writers[..count], lowest(next, numbers, used)) {
+    if are_below(writers, lowest(next, used)) {
         return true;
     }
-    let mut e = 0;
-    while e < count {
-        let w = writers[e];
-        e += 1;
-        if next <= w {
-            return false;
-        }
-        if is_number(numbers, used, w) {
+    // `all` is no plainer: its proof did not close.
+    for w in writers {
+        if !is_fair(next, used, *w) {
             return false;
         }
     }

@@ -1,49 +1,32 @@
 // The head: count, next number and next moment are in range.
-ghost use Rattle.std.specs.Prelude.{◌≡◌, [], ◌≤◌, length, take};
+ghost use Rattle.std.specs.Prelude.{◌≡◌, ◌≤◌, [], length};
 ghost use Rattle.terms.specs.Words.{committed};
 ghost use Rattle.rules.specs.Lists.{keep};
 ghost use Rattle.rules.specs.Sound.{headed};
 ghost use Rattle.sound.specs.Parts.{held};
 
-use graph::ROWS;
 use terms::Row;
 
 // How many of the used rows are committed.
-fn commits(rows: [Row; ROWS], used: usize) -> u64
-    requires { used ≤ ROWS }
-    ensures { result ≡ length (keep committed (take used rows)) }
+fn commits(used: &[Row]) -> usize
+    ensures is { result ≡ length (keep committed used.now) }
+    ensures most { result ≤ length used.now }
 {
-    let mut n = 0;
-    let mut j = 0;
-    while j < used {
-        let row = rows[j];
-        j += 1;
-        if !row.active() {
-            n += 1;
-        }
-    }
-    n
+    used.iter().filter(|r| !r.active()).count()
 }
 
-pub fn has_head(count: u32, next: u32, moment: u32, rows: [Row; ROWS], used: usize) -> bool
-    requires { used ≤ ROWS }
-    ensures { result ≡ headed (held count next moment [] [] (take used rows) []) }
+#[tactic(auto, using(crate::proofs::HeadTests::head_is))]
+pub fn has_head(count: u32, next: u32, moment: u32, used: &[Row]) -> bool
+    ensures { result ≡ headed (held count next moment [] [] used.now []) }
 {
-    if count < 1 {
-        return false;
-    }
-    if 256 < count {
-        return false;
-    }
-    if next < 1 {
-        return false;
-    }
-    if 65536 < next {
-        return false;
-    }
-    let ended = commits(rows, used);
-    if (moment as u64) < (next as u64) + ended {
-        return false;
-    }
-    (moment as u64) + 1 + (used as u64 - ended) <= 2 * (next as u64)
+    let ended = commits(used);
+    let going_on = (used.len() - ended) as u64;
+    let next = u64::from(next);
+    let moment = u64::from(moment);
+    1 <= count
+        && count <= 256
+        && 1 <= next
+        && next <= 65536
+        && next + ended as u64 <= moment
+        && moment + 1 + going_on <= 2 * next
 }

@@ -1,7 +1,6 @@
 // What the records say of each item: who wrote it, whether two of the writers are concurrent, and which version a read sees. Rows are named by
 // their index, sets of rows are words.
-ghost use Rattle.std.specs.Prelude.{◌≡◌, true, false, not, ◌||◌, map, ℕ, ◌≤◌, ◌<◌, eqb, length, take};
-ghost use Rattle.std.specs.Int.Bits.{bit_and};
+ghost use Rattle.std.specs.Prelude.{◌≡◌, true, false, not, ◌||◌, map, ℕ, ◌≤◌, ◌<◌, eqb, length};
 ghost use Rattle.graph.specs.Fill.{Tabled};
 ghost use Rattle.graph.specs.Sets.{member};
 ghost use Rattle.rules.specs.Raw.{unpack};
@@ -9,43 +8,38 @@ ghost use Rattle.terms.specs.Words.{is_read, num};
 ghost use Rattle.sound.specs.Rows.{ascends, rises};
 ghost use Rattle.sound.specs.Told.{ItemsTold};
 ghost use Rattle.sound.specs.Records.{Owners, sorted};
-ghost use Rattle.sound.specs.Items.{earlier_than, is_install, top, newest_of};
+ghost use Rattle.sound.specs.Items.{earlier_than, is_install, newest_of};
 
-use crate::records::{item_of, kind_of, word_of};
-use crate::shape::ITEMS;
+use edges::ITEMS;
 use graph::{ROWS, Set};
+use packed::{RECS, is_read, is_write, item_of, word_of};
 use terms::Row;
 
 // For each used row, the committed ones before it that ended before its start. Starts ascend, so one that ended stays so for all that follow.
-pub fn earlier(rows: [Row; ROWS], used: usize, out: &mut [Set])
-    requires { (used ≤ ROWS) × (used ≤ length out.old) × (rises (take used rows) ≡ true) }
-    ensures { (length out.new ≡ length out.old) × Tabled used out.new (earlier_than rows) }
+fn earlier(used: &[Row]) -> [Set; ROWS]
+    requires { (length used.now ≤ ROWS) × (rises used.now ≡ true) }
+    ensures { Tabled (length used.now) result (earlier_than used.now) }
 {
+    let mut early = [0; ROWS];
     let mut ends = [0; ROWS];
     let mut kept = 0;
     let mut done = 0;
-    let mut i = 0;
-    while i < used {
-        let k = i;
-        let r = rows[k];
+    for (k, r) in used.iter().enumerate() {
         done = edges::past(&ends, kept, done, r.start.0);
-        out[k] = done;
-        i += 1;
+        early[k] = done;
         if !r.active() {
             ends[k] = r.commit.0;
             kept = graph::with(kept, k);
         }
     }
+    early
 }
 
 // Is the record a write, of a row that is committed?
 fn is_install(p: u64, row: Row) -> bool
     ensures { result ≡ is_install p row }
 {
-    if kind_of(p) != 2 {
-        return false;
-    }
-    !row.active()
+    is_write(p) && !row.active()
 }
 
 // Have all these writers of an item ended before?
@@ -55,77 +49,51 @@ fn is_unmixed(others: Set, before: Set) -> bool
     graph::without(others, before) == 0
 }
 
-// The highest of the set.
-fn highest(s: Set) -> usize
-    requires { 0 < s }
-    ensures { (result ≡ top ROWS s) × (result < ROWS) }
-{
-    (31 - u32::leading_zeros(s)) as usize
-}
-
 // The number of the set's highest row, or else base.
-fn newest(s: Set, numbers: &[u32], base: u32) -> u32
-    requires { length numbers.now ≡ ROWS }
-    ensures { result ≡ newest_of ROWS numbers.now s base }
+#[tactic(auto, using(crate::proofs::Places::nums_at), unfolding(crate::specs::Items::newest_of))]
+fn newest(s: Set, used: &[Row], base: u32) -> u32
+    requires { (j : ℕ) → member s j ≡ true → j < length used.now }
+    ensures { result ≡ newest_of ROWS (map num used.now) s base }
 {
     if s == 0 {
         return base;
     }
-    numbers[highest(s)]
-}
-
-fn both(a: Set, b: Set) -> Set
-    ensures { result ≡ bit_and a b }
-{
-    a & b
+    used[(31 - s.leading_zeros()) as usize].number.0
 }
 
 // Does the record, where it is a read, name the newest of these writers, or else base?
-fn is_seen(p: u64, s: Set, numbers: &[u32], base: u32) -> bool
-    requires { length numbers.now ≡ ROWS }
-    ensures { result ≡ (not (is_read (unpack p)) || eqb (unpack p).word (newest_of ROWS numbers.now s base)) }
+fn is_seen(p: u64, s: Set, used: &[Row], base: u32) -> bool
+    requires { (j : ℕ) → member s j ≡ true → j < length used.now }
+    ensures { result ≡ (not (is_read (unpack p)) || eqb (unpack p).word (newest_of ROWS (map num used.now) s base)) }
 {
-    if kind_of(p) != 1 {
-        return true;
-    }
-    word_of(p) == newest(s, numbers, base)
+    !is_read(p) || word_of(p) == newest(s, used, base)
 }
 
 // Are no two committed writers of one item concurrent, and does each read word name the version seen? The records stand by row, so the writers met
 // so far are all those that can have ended before.
 pub fn has_items(
-    rows: [Row; ROWS],
-    used: usize,
-    recs: &[u64],
-    filed: usize,
-    owners: &[usize],
-    numbers: &[u32],
-    writers: &[u32],
+    used: &[Row],
+    filed: &[u64],
+    owners: &[usize; RECS],
+    writers: &[u32; ITEMS],
 ) -> bool
-    requires { (used ≤ ROWS) × (filed ≤ length recs.now) × (filed ≤ length owners.now) × (length numbers.now ≡ ROWS) × (length writers.now ≡ ITEMS) × (ascends (take used rows) ≡ true) × (rises (take used rows) ≡ true) × Owners used filed rows recs.now owners.now × (take used numbers.now ≡ map num (take used rows)) × (sorted (take filed recs.now) ≡ true) }
-    ensures { ItemsTold used filed rows recs.now writers.now result }
+    requires { (length used.now ≤ ROWS) × (length filed.now ≤ RECS) × (ascends used.now ≡ true) × (rises used.now ≡ true) × Owners (length filed.now) used.now filed.now owners.now × (sorted filed.now ≡ true) }
+    ensures { ItemsTold used.now filed.now writers.now result }
 {
-    let mut early = [0; ROWS];
-    earlier(rows, used, &mut early);
+    let early = earlier(used);
     let mut wrote = [0; ITEMS];
-    let mut j = 0;
-    while j < filed {
-        let p = recs[j];
+    for (j, p) in filed.iter().enumerate() {
         let o = owners[j];
-        let row = rows[o];
-        j += 1;
-        let e = item_of(p) as usize;
+        let e = item_of(*p).0 as usize;
         let others = wrote[e];
         let before = early[o];
-        if is_install(p, row) {
+        if is_install(*p, used[o]) {
             if !is_unmixed(others, before) {
                 return false;
             }
             wrote[e] = graph::with(others, o);
-        } else {
-            if !is_seen(p, both(others, before), numbers, writers[e]) {
-                return false;
-            }
+        } else if !is_seen(*p, others & before, used, writers[e]) {
+            return false;
         }
     }
     true

@@ -1,20 +1,22 @@
 // Whether lent tables are sound: one test for each sentence of document 01's section.
 #![tactic(auto)]
 
-ghost use Rattle.std.specs.Prelude.{◌≡◌, true, ◌≤◌, length, take};
+ghost use Rattle.std.specs.Prelude.{◌≡◌, true, ◌≤◌, length};
 ghost use Rattle.rules.specs.Raw.{sound_raw};
 ghost use Rattle.sound.specs.Rows.{ascends, rises};
 ghost use Rattle.sound.specs.Shape.{raw};
 ghost use Rattle.sound.specs.Told.{LinksTold, tested_raw};
 
-use crate::base::{has_base, numbers};
+use crate::base::has_base;
 use crate::head::has_head;
 use crate::items::has_items;
 use crate::records::has_records;
 use crate::rings::has_ring;
 use crate::rows::has_rows;
-use crate::shape::{ITEMS, RECS, has_shape, used_recs, used_rows};
+use crate::shape::{has_shape, used_recs, used_rows};
+use edges::ITEMS;
 use graph::ROWS;
+use packed::RECS;
 use terms::Row;
 
 pub mod base;
@@ -26,39 +28,20 @@ pub mod rows;
 pub mod shape;
 
 // Are the records, the writers in the value tables and the read words what the rows allow?
-fn has_links(
-    count: u32,
-    next: u32,
-    writers: &[u32],
-    rows: [Row; ROWS],
-    used: usize,
-    recs: &[u64],
-    filed: usize,
-) -> bool
-    requires { (used ≤ ROWS) × (filed ≤ length recs.now) × (filed ≤ RECS) × (length writers.now ≡ ITEMS) × (count ≤ ITEMS) × (ascends (take used rows) ≡ true) × (rises (take used rows) ≡ true) }
-    ensures { LinksTold count next used filed writers.now rows recs.now result }
+fn has_links(count: u32, next: u32, writers: &[u32; ITEMS], used: &[Row], filed: &[u64]) -> bool
+    requires { (count ≤ ITEMS) × (length used.now ≤ ROWS) × (length filed.now ≤ RECS) × (ascends used.now ≡ true) × (rises used.now ≡ true) }
+    ensures { LinksTold count next writers.now used.now filed.now result }
 {
     let mut owners = [0; RECS];
-    if !has_records(count, rows, used, recs, filed, &mut owners) {
-        return false;
-    }
-    let mut names = [0; ROWS];
-    numbers(rows, used, &mut names);
-    if !has_base(next, &names, used, writers, count as usize) {
-        return false;
-    }
-    has_items(rows, used, recs, filed, &owners, &names, writers)
+    has_records(count, used, filed, &mut owners)
+        && has_base(next, used, &writers[..count as usize])
+        && has_items(used, filed, &owners, writers)
 }
 
 // Do the tables pass all tests but those of dependencies?
-pub fn is_tested(
-    head: &[u32],
-    values: &[u32],
-    writers: &[u32],
-    rows: [Row; ROWS],
-    recs: &[u64],
-) -> bool
-    ensures { result ≡ tested_raw ROWS RECS (raw head.now values.now writers.now rows recs.now) }
+pub fn is_tested(head: &[u32], values: &[u32], writers: &[u32], rows: &[Row], recs: &[u64]) -> bool
+    ensures is { result ≡ tested_raw ROWS RECS (raw head.now values.now writers.now rows.now recs.now) }
+    ensures rows { result ≡ true → length rows.now ≡ ROWS }
 {
     let used = used_rows(rows);
     let filed = used_recs(recs);
@@ -68,25 +51,22 @@ pub fn is_tested(
     let count = head[0];
     let next = head[1];
     let moment = head[2];
-    if !has_head(count, next, moment, rows, used) {
-        return false;
-    }
-    if !has_rows(rows, used, next, moment) {
-        return false;
-    }
-    has_links(count, next, writers, rows, used, recs, filed)
+    let used = &rows[..used];
+    let filed = &recs[..filed];
+    let writers = writers.as_array::<ITEMS>().unwrap();
+    has_head(count, next, moment, used)
+        && has_rows(used, next, moment)
+        && has_links(count, next, writers, used, filed)
 }
 
 // Are the tables sound?
-pub fn sound(head: &[u32], values: &[u32], writers: &[u32], rows: [Row; ROWS], recs: &[u64]) -> bool
-    ensures { result ≡ sound_raw ROWS RECS (raw head.now values.now writers.now rows recs.now) }
+pub fn sound(head: &[u32], values: &[u32], writers: &[u32], rows: &[Row], recs: &[u64]) -> bool
+    ensures { result ≡ sound_raw ROWS RECS (raw head.now values.now writers.now rows.now recs.now) }
 {
     if !is_tested(head, values, writers, rows, recs) {
         return false;
     }
+    let rows = rows.as_array::<ROWS>().unwrap();
     let g = edges::edges(rows, recs);
-    if has_ring(&g) {
-        return false;
-    }
-    edges::spent(rows, &g) == 0
+    !has_ring(&g) && edges::spent(rows, &g) == 0
 }

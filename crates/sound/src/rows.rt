@@ -1,109 +1,87 @@
 // The rows: ascending numbers and starts, in range; distinct moments; each commit after its own start.
-ghost use Rattle.std.specs.Prelude.{◌≡◌, true, ◌&&◌, [], ℕ, ◌≤◌, take};
-ghost use Rattle.rules.specs.Lists.{pairs};
+ghost use Rattle.std.specs.Prelude.{◌≡◌, true, ◌&&◌, [], ℕ};
+ghost use Rattle.terms.specs.Words.{num, start};
+ghost use Rattle.rules.specs.Lists.{all, pairs};
 ghost use Rattle.rules.specs.Sound.{numbered, timed};
 ghost use Rattle.sound.specs.Parts.{held};
-ghost use Rattle.sound.specs.Rows.{ascends, ends_well, apart_from, fine_row, fine_from};
+ghost use Rattle.sound.specs.Rows.{apart_from, ascends, ends_well, fine_from, fine_row};
 
-use graph::ROWS;
 use terms::Row;
 
 // Is the row active, or its commit after its start and before the moment?
+#[tactic(auto, unfolding(crate::specs::Rows::ends_well))]
 fn ends_well(r: Row, moment: u32) -> bool
     ensures { result ≡ ends_well moment r }
 {
-    if r.commit.0 == 0 {
-        return true;
-    }
-    if r.commit.0 <= r.start.0 {
-        return false;
-    }
-    r.commit.0 < moment
+    r.active() || (r.start < r.commit && r.commit.0 < moment)
 }
 
-// Is the row in range, after a row with the number n and the start b?
-fn is_fine(r: Row, n: u32, b: u32, next: u32, moment: u32) -> bool
-    ensures { result ≡ fine_row next moment n b r }
+// Is the row in range, and behind the row before it?
+#[tactic(auto, unfolding(crate::specs::Rows::fine_row))]
+fn is_fine(r: Row, before: Row, next: u32, moment: u32) -> bool
+    ensures { result ≡ fine_row next moment (num before) (start before) r }
 {
-    if r.number.0 <= n {
-        return false;
-    }
-    if next <= r.number.0 {
-        return false;
-    }
-    if r.start.0 <= b {
-        return false;
-    }
-    if moment <= r.start.0 {
-        return false;
-    }
-    ends_well(r, moment)
+    before.number.0 < r.number.0
+        && r.number.0 < next
+        && before.start < r.start
+        && r.start.0 < moment
+        && ends_well(r, moment)
 }
 
 // Are the used rows in range and in order?
-fn are_fine(rows: [Row; ROWS], used: usize, next: u32, moment: u32) -> bool
-    requires { used ≤ ROWS }
-    ensures { result ≡ fine_from next moment 0 0 (take used rows) }
+#[tactic(auto, unfolding(crate::specs::Rows::fine_from))]
+fn are_fine(used: &[Row], next: u32, moment: u32) -> bool
+    ensures { result ≡ fine_from next moment 0 0 used.now }
 {
-    let mut n = 0;
-    let mut b = 0;
-    let mut j = 0;
-    while j < used {
-        let row = rows[j];
-        if !is_fine(row, n, b, next, moment) {
+    let mut before = Row::default();
+    for row in used {
+        if !is_fine(*row, before, next, moment) {
             return false;
         }
-        n = row.number.0;
-        b = row.start.0;
-        j += 1;
+        before = *row;
     }
     true
 }
 
 // Is a active, or its commit no moment of b's?
+#[tactic(auto, unfolding(crate::specs::Rows::apart_from))]
 fn is_apart(a: Row, b: Row) -> bool
     ensures { result ≡ apart_from a b }
 {
-    if a.commit.0 == 0 {
-        return true;
-    }
-    if a.commit.0 == b.commit.0 {
-        return false;
-    }
-    a.commit.0 != b.start.0
+    a.active() || (a.commit != b.commit && a.commit != b.start)
 }
 
-// Is no commit a moment of a later row's? All moments of the rows from the first that started after the commit on are after it.
-fn are_apart(rows: [Row; ROWS], used: usize) -> bool
-    requires { (used ≤ ROWS) × ((next : ℕ) × (moment : ℕ) × (fine_from next moment 0 0 (take used rows) ≡ true)) }
-    ensures { result ≡ pairs apart_from (take used rows) }
+// Is a's commit no moment of the rows behind it? From the first on that started after it, all moments are after it.
+fn is_apart_from(a: Row, later: &[Row]) -> bool
+    requires { (next : ℕ) × (moment : ℕ) × (n : ℕ) × (b : ℕ) × (fine_from next moment n b later.now ≡ true) }
+    ensures { result ≡ all (apart_from a) later.now }
 {
-    let mut i = 0;
-    while i < used {
-        let a = rows[i];
-        i += 1;
-        let mut j = i;
-        while j < used {
-            let b = rows[j];
-            if a.commit.0 < b.start.0 {
-                j = used;
-            } else {
-                if !is_apart(a, b) {
-                    return false;
-                }
-                j += 1;
-            }
+    for b in later {
+        if a.commit < b.start {
+            return true;
+        }
+        if !is_apart(a, *b) {
+            return false;
         }
     }
     true
 }
 
-pub fn has_rows(rows: [Row; ROWS], used: usize, next: u32, moment: u32) -> bool
-    requires { used ≤ ROWS }
-    ensures { result ≡ (ascends (take used rows) && (numbered (held 0 next moment [] [] (take used rows) []) && timed (held 0 next moment [] [] (take used rows) []))) }
+// Is no commit a moment of a later row's?
+fn are_apart(used: &[Row]) -> bool
+    requires { (next : ℕ) × (moment : ℕ) × (fine_from next moment 0 0 used.now ≡ true) }
+    ensures { result ≡ pairs apart_from used.now }
 {
-    if !are_fine(rows, used, next, moment) {
-        return false;
+    for (i, a) in used.iter().enumerate() {
+        if !is_apart_from(*a, &used[i + 1..]) {
+            return false;
+        }
     }
-    are_apart(rows, used)
+    true
+}
+
+pub fn has_rows(used: &[Row], next: u32, moment: u32) -> bool
+    ensures { result ≡ (ascends used.now && (numbered (held 0 next moment [] [] used.now []) && timed (held 0 next moment [] [] used.now []))) }
+{
+    are_fine(used, next, moment) && are_apart(used)
 }

@@ -1,76 +1,59 @@
 -- `sound::is_tested` meets its contract: test after test. Assumes nothing.
-use Rattle.std.proofs.Common.{rules, arith, get_or, take, sym, ◌∙◌}
+use Rattle.std.proofs.Common.{rules, ◌≡◌, get_or, take, sym, ◌∙◌}
 use Rattle.laws.proofs.Lists.{and_left}
-use Rattle.sound.specs.Shape.{is_zero, no_row, raw}
+use Rattle.sound.specs.Shape.{raw}
 use Rattle.sound.proofs.Standing.{rows_rise}
-use Rattle.sound.proofs.Shapes.{first_most}
-use Rattle.sound.proofs.Tested.{lengths, tested_linked, tested_unheaded, tested_unrowed, tested_unshaped}
+use Rattle.sound.proofs.Tested.{tested_linked, tested_unheaded, tested_unrowed, tested_unshaped}
 use Rattle.sound.proofs.is_tested.Goals as goal
+use Rattle.sound.proofs.is_tested.Goals.{then-has_head, else-has_head}
 
-pub returns-then-not-has_shape : goal.returns-then-not-has_shape
-returns-then-not-has_shape c =
+pub returns-then-not-has_shape-clause-is : goal.returns-then-not-has_shape-clause-is
+returns-then-not-has_shape-clause-is c =
     let a = c.args in
-    tested_unshaped 32 256 (raw a.head.now a.values.now a.writers.now a.rows a.recs.now) (search rules) c.used_rows-used.result c.used_recs-filed.result c.used_rows-used.ensures c.used_recs-filed.ensures
-    (sym c.has_shape.ensures ∙ c.if-not-has_shape.true)
-
-pub bounds-head-0 : goal.bounds-head-0
-bounds-head-0 c =
-    let a = c.args in
-    let z = lengths 32 256 (raw a.head.now a.values.now a.writers.now a.rows a.recs.now) (search rules) c.used_rows-used.result c.used_recs-filed.result c.used_rows-used.ensures c.used_recs-filed.ensures
-    (sym c.has_shape.ensures ∙ c.if-not-has_shape.false) in
-    omega (arith, z.head)
-
-pub bounds-head-1 : goal.bounds-head-1
-bounds-head-1 c =
-    let a = c.args in
-    let z = lengths 32 256 (raw a.head.now a.values.now a.writers.now a.rows a.recs.now) (search rules) c.used_rows-used.result c.used_recs-filed.result c.used_rows-used.ensures c.used_recs-filed.ensures
-    (sym c.has_shape.ensures ∙ c.if-not-has_shape.false) in
-    omega (arith, z.head)
-
-pub bounds-head-2 : goal.bounds-head-2
-bounds-head-2 c =
-    let a = c.args in
-    let z = lengths 32 256 (raw a.head.now a.values.now a.writers.now a.rows a.recs.now) (search rules) c.used_rows-used.result c.used_recs-filed.result c.used_rows-used.ensures c.used_recs-filed.ensures
-    (sym c.has_shape.ensures ∙ c.if-not-has_shape.false) in
-    omega (arith, z.head)
-
-pub has_head-requires : goal.has_head-requires
-has_head-requires c = omega (arith, c.used_rows-used.ensures, first_most no_row c.args.rows, c.well_formed)
-
-pub returns-then-not-has_head : goal.returns-then-not-has_head
-returns-then-not-has_head c =
-    let a = c.args in
-    tested_unheaded 32 256 (raw a.head.now a.values.now a.writers.now a.rows a.recs.now) (search rules) c.used_rows-used.result c.used_recs-filed.result c.used_rows-used.ensures c.used_recs-filed.ensures
-    (sym c.has_shape.ensures ∙ c.if-not-has_shape.false) (sym c.has_head.ensures ∙ c.if-not-has_head.true)
-
-pub has_rows-requires : goal.has_rows-requires
-has_rows-requires c = omega (arith, c.used_rows-used.ensures, first_most no_row c.args.rows, c.well_formed)
-
-pub returns-then-not-has_rows : goal.returns-then-not-has_rows
-returns-then-not-has_rows c =
-    let a = c.args in
-    tested_unrowed 32 256 (raw a.head.now a.values.now a.writers.now a.rows a.recs.now) (search rules) c.used_rows-used.result c.used_recs-filed.result c.used_rows-used.ensures c.used_recs-filed.ensures
-    (sym c.has_shape.ensures ∙ c.if-not-has_shape.false) (sym c.has_head.ensures ∙ c.if-not-has_head.false)
-    (sym c.has_rows.ensures ∙ c.if-not-has_rows.true)
+    tested_unshaped 32 256 (raw a.head.now a.values.now a.writers.now a.rows.now a.recs.now) c.used_rows-used.result c.used_recs-filed.result c.used_rows-used.ensures.is c.used_recs-filed.ensures.is
+    (sym c.has_shape.ensures.is ∙ c.if-not-has_shape.true)
 
 pub has_links-requires : goal.has_links-requires
 has_links-requires c =
     let a = c.args in
-    let z = lengths 32 256 (raw a.head.now a.values.now a.writers.now a.rows a.recs.now) (search rules) c.used_rows-used.result c.used_recs-filed.result c.used_rows-used.ensures c.used_recs-filed.ensures
-    (sym c.has_shape.ensures ∙ c.if-not-has_shape.false) in
-    let h = sym c.has_rows.ensures ∙ c.if-not-has_rows.false in (
-      omega (arith, c.used_rows-used.ensures, first_most no_row a.rows, c.well_formed),
-      omega (arith, c.used_recs-filed.ensures, first_most is_zero a.recs.now),
-      omega (arith, c.used_recs-filed.ensures, first_most is_zero a.recs.now, z.recs),
-      z.writers,
-      z.small,
-      and_left _ _ h,
-      rows_rise (get_or a.head.now 1 0) (get_or a.head.now 2 0) (take c.used_rows-used.result a.rows) h,
-    )
+    elim c.if-has_head.branch [
+      | then-has_head w ↦
+          let h = sym w.has_rows.ensures ∙ sym w.value-is ∙ c.if-has_rows.true in (
+            search rules,
+            search rules,
+            search rules,
+            and_left _ _ h,
+            rows_rise (get_or a.head.now 1 0) (get_or a.head.now 2 0) (take c.used_rows-used.result a.rows.now) h,
+          )
+      | else-has_head w ↦ cc
+    ]
 
-pub returns : goal.returns
-returns c =
+pub returns-then-has_rows-clause-is : goal.returns-then-has_rows-clause-is
+returns-then-has_rows-clause-is c =
     let a = c.args in
-    tested_linked 32 256 (raw a.head.now a.values.now a.writers.now a.rows a.recs.now) (search rules) c.used_rows-used.result c.used_recs-filed.result c.used_rows-used.ensures c.used_recs-filed.ensures
-    (sym c.has_shape.ensures ∙ c.if-not-has_shape.false) (sym c.has_head.ensures ∙ c.if-not-has_head.false)
-    (sym c.has_rows.ensures ∙ c.if-not-has_rows.false) c.has_links.ensures
+    let u = c.used_rows-used in
+    let f = c.used_recs-filed in
+    let same : c.unwrap-writers.result.now ≡ a.writers.now = search rules in
+    elim c.if-has_head.branch [
+      | then-has_head w ↦
+          tested_linked 32 256 (raw a.head.now a.values.now a.writers.now a.rows.now a.recs.now) u.result f.result u.ensures.is f.ensures.is (sym c.has_shape.ensures.is ∙ c.if-not-has_shape.false)
+          (sym c.has_head.ensures ∙ w.if-has_head.true) (sym w.has_rows.ensures ∙ sym w.value-is ∙ c.if-has_rows.true)
+          (rw (← same) c.has_links.ensures)
+      | else-has_head w ↦ cc
+    ]
+
+pub returns-else-has_rows-clause-is : goal.returns-else-has_rows-clause-is
+returns-else-has_rows-clause-is c =
+    let a = c.args in
+    let u = c.used_rows-used in
+    let f = c.used_recs-filed in
+    elim c.if-has_head.branch [
+      | then-has_head w ↦
+          c.if-has_rows.false
+          ∙ tested_unrowed 32 256 (raw a.head.now a.values.now a.writers.now a.rows.now a.recs.now) u.result f.result u.ensures.is f.ensures.is (sym c.has_shape.ensures.is ∙ c.if-not-has_shape.false)
+          (sym c.has_head.ensures ∙ w.if-has_head.true) (sym w.has_rows.ensures ∙ sym w.value-is ∙ c.if-has_rows.false)
+      | else-has_head w ↦
+          c.if-has_rows.false
+          ∙ tested_unheaded 32 256 (raw a.head.now a.values.now a.writers.now a.rows.now a.recs.now) u.result f.result u.ensures.is f.ensures.is (sym c.has_shape.ensures.is ∙ c.if-not-has_shape.false)
+          (sym c.has_head.ensures ∙ w.if-has_head.false)
+    ]

@@ -1,11 +1,10 @@
--- What is left to look at, for all. Assumes nothing.
-use Rattle.std.proofs.Common.{take, ◌-◌}
+-- What is left to look at. Assumes nothing.
+use Rattle.std.proofs.Common.{map}
+use Rattle.terms.specs.Words.{num}
+use Rattle.rules.specs.Lists.{all}
 use Rattle.lists.proofs.Scans.{Going}
-use Rattle.sound.specs.Base.{based_on}
+use Rattle.sound.specs.Base.{fair}
 use Rattle.sound.proofs.base.has_base.Given as goal
 
-abbrev pub invariant-loop-e : goal.invariant-loop-e
-invariant-loop-e l = Going (take l.count l.writers) (based_on l.next (take l.used l.numbers)) (based_on l.next (take l.used l.numbers) (take l.count l.writers)) l.e
-
-abbrev pub decreases-loop-e : goal.decreases-loop-e
-decreases-loop-e l = l.count - l.e
+abbrev pub invariant-loop-w : goal.invariant-loop-w
+invariant-loop-w l = Going l.writers (all (fair l.next (map num l.used))) (all (fair l.next (map num l.used)) l.writers) l.w-index

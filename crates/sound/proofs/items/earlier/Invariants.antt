@@ -1,12 +1,9 @@
 -- The sets so far, and those that ended: `Tabling` and `Ended`. Assumes nothing.
-use Rattle.std.proofs.Common.{length, ◌≡◌, ◌≤◌, ◌-◌}
+use Rattle.std.proofs.Common.{length, ◌≡◌}
 use Rattle.graph.proofs.Fills.{Tabling}
 use Rattle.sound.specs.Items.{earlier_than}
 use Rattle.sound.proofs.Earlier.{Ended}
 use Rattle.sound.proofs.items.earlier.Given as goal
 
-abbrev pub invariant-loop-i : goal.invariant-loop-i
-invariant-loop-i l = Tabling l.used l.out (earlier_than l.rows) l.i × Ended l.used l.rows l.i l.kept l.done l.ends × (length l.out ≡ length l.initial.out) × (l.i ≤ l.used)
-
-abbrev pub decreases-loop-i : goal.decreases-loop-i
-decreases-loop-i l = l.used - l.i
+abbrev pub invariant-loop-k : goal.invariant-loop-k
+invariant-loop-k l = Tabling (length l.used) l.early (earlier_than l.used) l.k × Ended l.used l.k l.kept l.done l.ends × (length l.early ≡ 32)

@@ -3,12 +3,12 @@ use Rattle.std.proofs.Common.{rules, arith, ◌-◌, ◌^◌, sym, ◌∙◌}
 use lib.Bits.{and_le_l}
 use Rattle.graph.specs.Sets.{edges, member, outside}
 use Rattle.graph.proofs.Sets.{member_lt}
-use Rattle.edges.proofs.Draws.{without_one}
+use Rattle.graph.proofs.Taken.{without_one}
 use Rattle.sound.proofs.Peeling.{none-into, one_into, peel_keep, peel_off, peel_start}
 use Rattle.sound.proofs.rings.peeled.Goals as goal
 
 pub loop-i-init : goal.loop-i-init
-loop-i-init c = (peel_start _ (λ k t. member_lt 32 _ k (search rules) t), omega arith, search rules, omega arith)
+loop-i-init c = (peel_start _ (λ k t. member_lt 32 _ k (search rules) t), omega arith, search rules)
 
 pub loop-i-preserved-then-are_apart : goal.loop-i-preserved-then-are_apart
 unfolding outside
@@ -21,7 +21,6 @@ loop-i-preserved-then-are_apart c =
           (none-into 32 g (k.i - 1) k.left k.invariant.2 (sym c.if-are_apart.true ∙ c.are_apart.ensures)),
       omega (arith, k.invariant.1, c.without-left.ensures, less),
       omega (arith, k.invariant.2, c.without-left.ensures, less),
-      omega (arith, k.invariant.3),
     )
 
 pub loop-i-preserved : goal.loop-i-preserved
@@ -29,4 +28,4 @@ loop-i-preserved c =
     let g = c.args.g.now in
     let k = c.loop-i in
     let u = one_into 32 g (k.i - 1) k.left (sym c.if-are_apart.false ∙ c.are_apart.ensures) in
-    (peel_keep (edges g) k.invariant.0 (k.i - 1) (omega arith) u.0 u.1 u.2, k.invariant.1, k.invariant.2, omega (arith, k.invariant.3))
+    (peel_keep (edges g) k.invariant.0 (k.i - 1) (omega arith) u.0 u.1 u.2, k.invariant.1, k.invariant.2)

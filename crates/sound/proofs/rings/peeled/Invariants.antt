@@ -5,7 +5,4 @@ use Rattle.sound.proofs.Peeling.{Peeling}
 use Rattle.sound.proofs.rings.peeled.Given as goal
 
 abbrev pub invariant-loop-i : goal.invariant-loop-i
-invariant-loop-i l = Peeling (edges l.g) (member l.from) (member l.left) l.i × (l.left ≤ l.from) × (l.left < 2 ^ 32) × (l.i ≤ 32)
-
-abbrev pub decreases-loop-i : goal.decreases-loop-i
-decreases-loop-i l = l.i
+invariant-loop-i l = Peeling (edges l.g) (member l.from) (member l.left) l.i × (l.left ≤ l.from) × (l.left < 2 ^ 32)

@@ -1,14 +1,14 @@
--- `sound::shape::used_recs` meets its contract: `Going`, for the first index. Assumes nothing.
-use Rattle.std.proofs.Common.{rules, eq-eqb, ne_eqb}
-use Rattle.lists.proofs.Scans.{first_next, first_here, first_done}
+-- `sound::shape::used_recs` meets its contract: the first record that is 0, or else the length. Assumes nothing.
+use Rattle.std.proofs.Common.{rules, tests, ap, ◌∙◌}
+use Rattle.std.specs.Prelude.{length, unwrap_or}
+use Rattle.std.proofs.lemmas.Iterator.{YieldsList-from_slice}
+use Rattle.std.proofs.lemmas.Iterator.Search.{position_from_yields_List}
 use Rattle.sound.specs.Shape.{is_zero}
+use Rattle.lists.proofs.Firsts.{first_found}
 use Rattle.sound.proofs.shape.used_recs.Goals as goal
 
-pub returns-then-recs-j-eq0 : goal.returns-then-recs-j-eq0
-returns-then-recs-j-eq0 c = first_here is_zero c.loop-j.invariant 0 (search rules) (eq-eqb _ _ c.if-recs-j-eq0.true)
-
-pub loop-j-preserved : goal.loop-j-preserved
-loop-j-preserved c = first_next is_zero c.loop-j.invariant 0 (search rules) (ne_eqb _ _ c.if-recs-j-eq0.false)
-
-pub returns : goal.returns
-returns c = first_done is_zero c.loop-j.invariant (search rules)
+pub returns-clause-is : goal.returns-clause-is
+returns-clause-is c =
+    c.unwrap_or.ensures
+    ∙ ap (λ o. unwrap_or o (length c.args.recs.now)) (position_from_yields_List is_zero _ _ _ c.position.ensures.ran (YieldsList-from_slice c.args.recs.now c.iter.ensures.rest) (λ x b q k. search (rules, tests)))
+    ∙ first_found is_zero c.args.recs.now
