@@ -6,7 +6,8 @@ use mathlib.Core.Logic.{inl, inr}
 use mathlib.Core.Path.{◌∙◌, ◌≡◌, ap, refl, sym}
 use native.Mathlib.Omega.{arith}
 use lib.ListN.{get_or, length, set}
-use Rattle.terms.specs.declared.Answer.TheVariants.{Accepted, NumbersUsedUp, RowsFull}
+use Rattle.std.specs.Prelude.{Err, Ok}
+use Rattle.terms.specs.declared.Refusal.TheVariants.{NumbersUsedUp, RowsFull}
 use Rattle.terms.specs.Words.{row}
 use Rattle.rules.specs.State.{begun}
 use Rattle.rules.specs.Machine.{Begin, after, tables}
@@ -17,18 +18,18 @@ use Rattle.bridge.proofs.HeldChanges.{add_held}
 use Rattle.calls.proofs.Outcomes.{accept, refuse, sane}
 
 module _ (n m : ℕ) (w : Raw) (h : sound_raw n m w ≡ true) where
-  pub begin-last : get_or w.head 1 0 ≡ 65536 → on_sound n m Begin w ≡ (NumbersUsedUp, w)
+  pub begin-last : get_or w.head 1 0 ≡ 65536 → on_sound n m Begin w ≡ (Err NumbersUsedUp, w)
   unfolding state_of
-  begin-last e = refuse n m w h Begin NumbersUsedUp (inr (sane n m w h, inl (e, refl))) refl refl
+  begin-last e = refuse n m w h Begin (Err NumbersUsedUp) (inr (sane n m w h, inl (e, refl))) refl refl
 
-  pub begin_full : (get_or w.head 1 0 ≡ 65536 → ⊥) → length (used_rows w.rows) ≡ n → on_sound n m Begin w ≡ (RowsFull, w)
+  pub begin_full : (get_or w.head 1 0 ≡ 65536 → ⊥) → length (used_rows w.rows) ≡ n → on_sound n m Begin w ≡ (Err RowsFull, w)
   unfolding state_of tables
-  begin_full e l = refuse n m w h Begin RowsFull (inr (sane n m w h, inr (e, inl (omega (arith, l), refl)))) refl refl
+  begin_full e l = refuse n m w h Begin (Err RowsFull) (inr (sane n m w h, inr (e, inl (omega (arith, l), refl)))) refl refl
 
   -- the next number and the next moment are taken, and a row is added
   pub begin-done : (get_or w.head 1 0 ≡ 65536 → ⊥) → (length (used_rows w.rows) ≡ n → ⊥)
       → on_sound n m Begin w ≡ (
-        Accepted (get_or w.head 1 0),
+        Ok (get_or w.head 1 0),
         record {
           head = set (set w.head 1 (get_or w.head 1 0 + 1)) 2 (get_or w.head 2 0 + 1);
           values = w.values;
@@ -43,5 +44,5 @@ module _ (n m : ℕ) (w : Raw) (h : sound_raw n m w ≡ true) where
       let room : length (state_of w).rows < n = omega (arith, k.rows_few, rows_used w, l) in
       let added = add_held n m w k (row (get_or w.head 1 0) (get_or w.head 2 0) 0) room in
       let heads = ap (λ (d : List ℕ). set (set d 1 (get_or w.head 1 0 + 1)) 2 (get_or w.head 2 0 + 1)) (sym (head-is n m w k)) in
-      accept n m w h Begin (Accepted (get_or w.head 1 0)) (inr (sane n m w h, inr (e, inr (λ f. l (omega (arith, f, k.rows_few, rows_used w)), refl)))) refl
-      ∙ (λ j. (Accepted (get_or w.head 1 0), record { head = heads j; values = (added j).values; writers = (added j).writers; rows = (added j).rows; recs = (added j).recs }))
+      accept n m w h Begin (Ok (get_or w.head 1 0)) (inr (sane n m w h, inr (e, inr (λ f. l (omega (arith, f, k.rows_few, rows_used w)), refl)))) refl
+      ∙ (λ j. (Ok (get_or w.head 1 0), record { head = heads j; values = (added j).values; writers = (added j).writers; rows = (added j).rows; recs = (added j).recs }))

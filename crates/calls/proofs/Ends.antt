@@ -6,12 +6,13 @@ use mathlib.Core.Logic.{inl, inr}
 use mathlib.Core.Path.{◌∙◌, ◌≡◌, ap, refl, subst, sym}
 use native.Mathlib.Omega.{arith}
 use lib.ListN.{get_or, length, set}
+use Rattle.std.specs.Prelude.{Err, Ok}
+use Rattle.terms.specs.declared.Refusal.{Refusal}
+use Rattle.terms.specs.declared.Refusal.TheVariants.{ClosesRing, NotActive}
 use Rattle.terms.specs.declared.Row.{Row}
 use Rattle.terms.specs.declared.TxnNo.{TxnNo}
-use Rattle.terms.specs.declared.Answer.{Answer}
-use Rattle.terms.specs.declared.Answer.TheVariants.{Accepted, ClosesRing, NotActive}
 use Rattle.terms.specs.Words.{stamp}
-use Rattle.rules.specs.State.{committing, dropped, is_active}
+use Rattle.rules.specs.State.{State, committing, dropped, is_active}
 use Rattle.rules.specs.Deps.{Beaten, Ring, beaten, ring}
 use Rattle.rules.specs.Spent.{forget, prune}
 use Rattle.rules.specs.Machine.{Abort, Commit, after, tables}
@@ -27,10 +28,16 @@ use Rattle.bridge.specs.Whole.{used_of}
 use Rattle.bridge.proofs.HeldChanges.{committing-held}
 use Rattle.bridge.proofs.Holds.{Holds, active_used, beaten_used, head-is, holds, recs_long}
 use Rattle.edges.specs.Told.{EdgesTold}
-use Rattle.ending.specs.Told.{Ended, Roomy, Stand, Tidied, ring_at}
+use Rattle.ending.specs.Told.{Becomes, Ended, Roomy, Stand, Tidied, ring_at}
 use Rattle.ending.proofs.Committing.{ring-at, roomy_commit}
 use Rattle.calls.specs.Lent.{raw}
 use Rattle.calls.proofs.Outcomes.{accept, ended, refuse, sane}
+
+-- what becomes of tables that are lent on as arrays is what becomes of the tables
+pub on_arrays : {n m : ℕ} {f : State → State} {asked : State → Type 0} {v v' w w' : List ℕ} {r r' : List Row} {p : List ℕ} {values writers : List ℕ} {rows : List Row} {recs : List ℕ}
+    → v' ≡ v → w' ≡ w → r' ≡ r → Becomes n m f asked v' w' r' p values writers rows recs → Becomes n m f asked v w r p values writers rows recs
+on_arrays ev ew er b s roomy a k =
+    b s roomy a (record { values_are = ev ∙ k.values_are; writers_are = ew ∙ k.writers_are; rows_are = er ∙ k.rows_are; recs_are = k.recs_are })
 
 module _ (n m : ℕ) (w : Raw) (h : sound_raw n m w ≡ true) (t : TxnNo) where
   k : Holds n m w
@@ -52,11 +59,11 @@ module _ (n m : ℕ) (w : Raw) (h : sound_raw n m w ≡ true) (t : TxnNo) where
     inactive : ¬ Active (state_of w) t.0
     inactive a = false≢true (sym f ∙ active_used w [] [] [] t.0 ∙ (active_decides (state_of w) t.0).1 a)
 
-    pub abort_inactive : on_sound n m (Abort t) w ≡ (NotActive, w)
-    abort_inactive = refuse n m w h (Abort t) NotActive (inr (sane n m w h, inl (inactive, refl))) refl refl
+    pub abort_inactive : on_sound n m (Abort t) w ≡ (Err NotActive, w)
+    abort_inactive = refuse n m w h (Abort t) (Err NotActive) (inr (sane n m w h, inl (inactive, refl))) refl refl
 
-    pub commit_inactive : on_sound n m (Commit t) w ≡ (NotActive, w)
-    commit_inactive = refuse n m w h (Commit t) NotActive (inr (sane n m w h, inl (inactive, refl))) refl refl
+    pub commit_inactive : on_sound n m (Commit t) w ≡ (Err NotActive, w)
+    commit_inactive = refuse n m w h (Commit t) (Err NotActive) (inr (sane n m w h, inl (inactive, refl))) refl refl
 
   -- ---- the transaction is active
   module _ (f : is_active (used_of w.rows [] [] []) t.0 ≡ true) where
@@ -80,13 +87,13 @@ module _ (n m : ℕ) (w : Raw) (h : sound_raw n m w ≡ true) (t : TxnNo) where
             recs = sym u.recs_are j;
           }
 
-      pub abort-done : on_sound n m (Abort t) w ≡ (Accepted 0, raw w.head values writers rows recs)
-      abort-done = accept n m w h (Abort t) (Accepted 0) (inr (sane n m w h, inr (active, refl))) refl ∙ ap (λ (u : Raw). (Accepted 0, u)) left
+      pub abort-done : on_sound n m (Abort t) w ≡ (Ok 0, raw w.head values writers rows recs)
+      abort-done = accept n m w h (Abort t) (Ok 0) (inr (sane n m w h, inr (active, refl))) refl ∙ ap (λ (u : Raw). (Ok 0, u)) left
 
-      pub commit-beaten : beaten (used_of w.rows w.recs [] []) t.0 ≡ true → on_sound n m (Commit t) w ≡ (Answer.Beaten, raw w.head values writers rows recs)
+      pub commit-beaten : beaten (used_of w.rows w.recs [] []) t.0 ≡ true → on_sound n m (Commit t) w ≡ (Err Refusal.Beaten, raw w.head values writers rows recs)
       commit-beaten b =
-          ended n m w h t Answer.Beaten (inr (sane n m w h, inr (active, inl ((beaten_decides (state_of w) t.0).0 (sym (beaten_used w [] [] t.0) ∙ b), refl)))) refl refl
-          ∙ ap (λ (u : Raw). (Answer.Beaten, u)) left
+          ended n m w h t (Err Refusal.Beaten) (inr (sane n m w h, inr (active, inl ((beaten_decides (state_of w) t.0).0 (sym (beaten_used w [] [] t.0) ∙ b), refl)))) refl refl
+          ∙ ap (λ (u : Raw). (Err Refusal.Beaten, u)) left
 
     -- ---- it is not beaten
     module _ (b : beaten (used_of w.rows w.recs [] []) t.0 ≡ false) where
@@ -115,10 +122,10 @@ module _ (n m : ℕ) (w : Raw) (h : sound_raw n m w ≡ true) (t : TxnNo) where
 
         pub commit-ring : ring_at n g rows t.0 ≡ true → {values writers : List ℕ} {rows' : List Row} {recs : List ℕ}
             → Ended n (length w.recs) t.0 w.values w.writers w.rows w.recs values writers rows' recs
-            → on_sound n m (Commit t) w ≡ (ClosesRing, raw w.head values writers rows' recs)
+            → on_sound n m (Commit t) w ≡ (Err ClosesRing, raw w.head values writers rows' recs)
         commit-ring r e =
-            ended n m w h t ClosesRing (inr (sane n m w h, inr (active, inr (unbeaten, inl ((ring_decides (committing (state_of w) t.0)).0 (sym ring-is ∙ r), refl))))) refl refl
-            ∙ ap (λ (u : Raw). (ClosesRing, u)) (left e)
+            ended n m w h t (Err ClosesRing) (inr (sane n m w h, inr (active, inr (unbeaten, inl ((ring_decides (committing (state_of w) t.0)).0 (sym ring-is ∙ r), refl))))) refl refl
+            ∙ ap (λ (u : Raw). (Err ClosesRing, u)) (left e)
 
         module _ (r : ring_at n g rows t.0 ≡ false) where
           ringless : ¬ Ring (committing (state_of w) t.0)
@@ -137,8 +144,8 @@ module _ (n m : ℕ) (w : Raw) (h : sound_raw n m w ≡ true) (t : TxnNo) where
                   recs = sym u.recs_are j;
                 }
 
-            pub commit-done : on_sound n m (Commit t) w ≡ (Accepted (get_or w.head 2 0), raw (set w.head 2 (get_or w.head 2 0 + 1)) values writers rows' recs)
+            pub commit-done : on_sound n m (Commit t) w ≡ (Ok (get_or w.head 2 0), raw (set w.head 2 (get_or w.head 2 0 + 1)) values writers rows' recs)
             unfolding state_of
             commit-done =
-                accept n m w h (Commit t) (Accepted (get_or w.head 2 0)) (inr (sane n m w h, inr (active, inr (unbeaten, inr (ringless, refl))))) refl
-                ∙ ap (λ (u : Raw). (Accepted (get_or w.head 2 0), u)) kept
+                accept n m w h (Commit t) (Ok (get_or w.head 2 0)) (inr (sane n m w h, inr (active, inr (unbeaten, inr (ringless, refl))))) refl
+                ∙ ap (λ (u : Raw). (Ok (get_or w.head 2 0), u)) kept

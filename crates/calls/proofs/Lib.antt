@@ -1,6 +1,6 @@
+pub mod Exits
 pub mod Outcomes
 pub mod Tables
-pub mod Fills
 pub mod Opens
 pub mod Begins
 pub mod Accesses

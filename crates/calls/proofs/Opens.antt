@@ -1,15 +1,16 @@
 -- An opening of lent tables: each of its outcomes. Assumes nothing.
-use Prim.Native.Nat.{ℕ, ◌≤◌}
+use Prim.Native.Nat.{ℕ, ◌-◌, ◌≤◌}
 use mathlib.Core.Bool.{Bool, ◌&&◌, and-eq-true_iff, false, true}
-use mathlib.Core.List.{List, [], ◌∷◌}
-use mathlib.Core.Path.{◌∙◌, ◌≡◌, ap, refl, sym}
+use mathlib.Core.List.{List, [], ◌∷◌, ◌++◌}
+use mathlib.Core.Path.{◌∙◌, ◌≡◌, ap, sym}
 use native.Mathlib.Nat.{sub-zero}
 use native.Mathlib.Omega.{arith}
-use lib.ListN.{length, replicate, set, take}
+use lib.ListN.{drop, length, length-drop, replicate}
 use borrow.Author.Tests.{eqb-true, leb-true}
+use Rattle.std.specs.Prelude.{Err, Ok}
+use Rattle.terms.specs.Words.{Answer}
+use Rattle.terms.specs.declared.Refusal.TheVariants.{BadOpening}
 use Rattle.terms.specs.declared.Row.{Row}
-use Rattle.terms.specs.declared.Answer.{Answer}
-use Rattle.terms.specs.declared.Answer.TheVariants.{Accepted, BadOpening}
 use Rattle.rules.specs.Lists.{padded}
 use Rattle.rules.specs.State.{opened}
 use Rattle.rules.specs.Machine.{openable}
@@ -45,36 +46,20 @@ counted c vs h =
     let e = eqb-true (length vs) c v.1 in
     (e, omega (arith, e, leb-true c 256 v.0.1))
 
--- three entries are written
-pub all_three : (l : List ℕ) (a b c : ℕ) → length l ≡ 3 → set (set (set l 0 a) 1 b) 2 c ≡ a ∷ b ∷ c ∷ []
-all_three [] a b c e = absurd (omega arith)
-all_three (x ∷ []) a b c e = absurd (omega arith)
-all_three (x ∷ y ∷ []) a b c e = absurd (omega arith)
-all_three (x ∷ y ∷ z ∷ []) a b c e = refl
-all_three (x ∷ y ∷ z ∷ u ∷ l) a b c e = absurd (omega arith)
-
-take_none : {A : Type 0} (l : List A) → take 0 l ≡ []
-take_none [] = refl
-take_none (x ∷ l) = refl
-
--- a table that is cleared from its start on
-pub cleared : {k : ℕ} (l l' : List ℕ) → length l ≡ k → l' ≡ padded (length l) 0 (take 0 l) → l' ≡ padded k 0 []
-cleared l l' e h = h ∙ (λ j. padded (e j) 0 (take_none l j))
-
 module _ (n m c : ℕ) (vs : List ℕ) (w : Raw) where
   outcome : Bool → Bool → Answer × Raw
-  outcome a b = elim (a && b) [ true ↦ (Accepted 0, raw_of n m (opened vs)) | false ↦ (BadOpening, w) ]
+  outcome a b = elim (a && b) [ true ↦ (Ok 0, raw_of n m (opened vs)) | false ↦ (Err BadOpening, w) ]
 
-  pub open_count : openable c vs ≡ false → open_on n m c vs w ≡ (BadOpening, w)
+  pub open_count : openable c vs ≡ false → open_on n m c vs w ≡ (Err BadOpening, w)
   unfolding open_on outcome
   open_count a = ap (λ (k : Bool). outcome k (fitting n m w)) a
 
-  pub open_misfit : openable c vs ≡ true → fitting n m w ≡ false → open_on n m c vs w ≡ (BadOpening, w)
+  pub open_misfit : openable c vs ≡ true → fitting n m w ≡ false → open_on n m c vs w ≡ (Err BadOpening, w)
   unfolding open_on outcome
   open_misfit a b = λ j. outcome (a j) (b j)
 
   pub open_done : openable c vs ≡ true → fitting n m w ≡ true → open_on n m c vs w ≡ (
-    Accepted 0,
+    Ok 0,
     record {
       head = c ∷ 1 ∷ 1 ∷ [];
       values = padded 256 0 vs;
@@ -88,7 +73,7 @@ module _ (n m c : ℕ) (vs : List ℕ) (w : Raw) where
       let u = counted c vs a in
       (λ j. outcome (a j) (b j))
       ∙ (λ j. (
-        Accepted 0,
+        Ok 0,
         record {
           head = u.0 j ∷ 1 ∷ 1 ∷ [];
           values = padded 256 0 vs;
@@ -99,20 +84,19 @@ module _ (n m c : ℕ) (vs : List ℕ) (w : Raw) where
       ))
 
   -- what the writing of each table makes
-  pub open_made : openable c vs ≡ true → fitting n m w ≡ true → (v q : List ℕ) (r : List Row) (x : List ℕ)
-      → v ≡ padded (length w.values) 0 vs → q ≡ padded (length w.writers) 0 (take 0 w.writers) → r ≡ replicate n zero_row
-      → x ≡ padded (length w.recs) 0 (take 0 w.recs)
-      → ◌≡◌ {A = Answer × Raw} (Accepted 0, record { head = set (set (set w.head 0 c) 1 1) 2 1; values = v; writers = q; rows = r; recs = x }) (open_on n m c vs w)
-  open_made a b v q r x ev eq er ex =
+  pub open_made : openable c vs ≡ true → fitting n m w ≡ true → {v q x : List ℕ} {r : List Row}
+      → v ≡ vs ++ replicate (length (drop (length vs) w.values)) 0 → q ≡ replicate (length w.writers) 0 → r ≡ replicate (length w.rows) zero_row → x ≡ replicate (length w.recs) 0
+      → ◌≡◌ {A = Answer × Raw} (Ok 0, record { head = c ∷ 1 ∷ 1 ∷ []; values = v; writers = q; rows = r; recs = x }) (open_on n m c vs w)
+  open_made a b ev eq er ex =
       let u = long n m w b in
       (λ j. (
-        Accepted 0,
+        Ok 0,
         record {
-          head = all_three w.head c 1 1 u.head j;
-          values = (ev ∙ ap (λ (k : ℕ). padded k 0 vs) u.values) j;
-          writers = cleared w.writers q u.writers eq j;
-          rows = er j;
-          recs = cleared w.recs x u.recs ex j;
+          head = c ∷ 1 ∷ 1 ∷ [];
+          values = (ev ∙ ap (λ (k : ℕ). vs ++ replicate k 0) (length-drop (length vs) w.values ∙ ap (λ (k : ℕ). k - length vs) u.values)) j;
+          writers = (eq ∙ (λ i. replicate (u.writers i) 0) ∙ sym (ap (λ (k : ℕ). replicate k 0) (sub-zero 256))) j;
+          rows = (er ∙ (λ i. replicate (u.rows i) zero_row)) j;
+          recs = (ex ∙ (λ i. replicate (u.recs i) 0) ∙ sym (ap (λ (k : ℕ). replicate k 0) (sub-zero m))) j;
         },
       ))
       ∙ sym (open_done a b)

@@ -4,8 +4,7 @@ use mathlib.Core.Bool.{Bool, false, false≢true, not, true}
 use mathlib.Core.Path.{◌∙◌, ◌≡◌, ap, refl, sym}
 use lib.Dec.{leb}
 use Rattle.terms.specs.declared.TxnNo.{TxnNo}
-use Rattle.terms.specs.declared.Answer.{Answer}
-use Rattle.terms.specs.Words.{accepted, paper}
+use Rattle.terms.specs.Words.{Answer, accepted, paper}
 use Rattle.rules.specs.Machine.{Abort, Call, Commit, after, refused, step, tables}
 use Rattle.rules.specs.Answers.{Gives, table}
 use Rattle.rules.specs.Raw.{Raw, raw_of, sound_raw, state_of}

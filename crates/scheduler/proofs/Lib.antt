@@ -1,2 +1,3 @@
+pub mod Exits
 pub mod Unique
 pub mod Useless

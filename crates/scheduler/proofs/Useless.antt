@@ -4,8 +4,8 @@ use mathlib.Core.List.{[], ◌∷◌}
 use mathlib.Core.Path.{◌∙◌, ◌≡◌, ap, refl, sym}
 use native.Mathlib.Omega.{arith}
 use lib.ListN.{get_or}
-use Rattle.terms.specs.declared.Answer.{Answer}
-use Rattle.terms.specs.Words.{accepted, paper}
+use Rattle.std.specs.Prelude.{Ok}
+use Rattle.terms.specs.Words.{Answer, accepted, paper}
 use Rattle.rules.specs.Book.{book}
 use Rattle.rules.specs.Machine.{Begin, Call, Open}
 use Rattle.rules.specs.Public.{call_on}
@@ -21,7 +21,7 @@ shut = raw_of 32 256 closed
 abbrev two : Raw
 two = raw_of 32 256 (opened (0 ∷ 0 ∷ []))
 
-opening : (call_on 32 256 (Open 2 (0 ∷ 0 ∷ [])) shut).0 ≡ Answer.Accepted 0
+opening : (call_on 32 256 (Open 2 (0 ∷ 0 ∷ [])) shut).0 ≡ Ok 0
 unfolding book
 opening = refl
 

@@ -1,6 +1,6 @@
 -- What the seven public calls promise together, as one statement about a scheduler: any function from a call and tables to an answer and tables. Assumes nothing.
 use Rattle.std.specs.Prelude.{ℕ, ◌≡◌}
-use Rattle.terms.specs.declared.Answer.{Answer}
+use Rattle.terms.specs.Words.{Answer}
 use Rattle.rules.specs.Machine.{Call}
 use Rattle.rules.specs.Public.{call_on}
 use Rattle.rules.specs.Raw.{Raw}

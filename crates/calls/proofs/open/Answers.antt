@@ -1,26 +1,26 @@
 -- `calls::open` meets its contract: each return is an outcome of an opening of lent tables. Assumes nothing.
-use Rattle.std.proofs.Common.{arith, ◌∙◌, sym, length-set}
+use Rattle.std.proofs.Common.{arith, ℕ, List, ◌≡◌, ◌++◌, ◌∙◌, ap, sym, length, replicate, Ok}
+use Rattle.rules.specs.Raw.{zero_row}
+use Rattle.calls.specs.Lent.{raw}
 use Rattle.calls.proofs.Opens.{counted, long, open_count, open_made, open_misfit}
+use Rattle.calls.proofs.open.Goals.{then-not-is_openable-via-then-not-is_openable, then-not-is_openable-via-else-not-is_openable+then-not-is_fitting}
 use Rattle.calls.proofs.open.Goals as goal
 
 pub returns-then-not-is_openable : goal.returns-then-not-is_openable
-returns-then-not-is_openable c = sym (open_count 32 256 _ _ _ (sym c.is_openable.ensures ∙ c.if-not-is_openable.true))
+returns-then-not-is_openable c = elim c.then-not-is_openable.branch [ then-not-is_openable-via-then-not-is_openable w ↦ sym (open_count 32 256 _ _ _ (sym c.is_openable.ensures ∙ w.if-not-is_openable.true)) | then-not-is_openable-via-else-not-is_openable+then-not-is_fitting w ↦ sym (open_misfit 32 256 _ _ _ (sym c.is_openable.ensures ∙ w.if-not-is_openable.false) (sym w.is_fitting.ensures ∙ w.if-not-is_fitting.true)) ]
 
-pub returns-then-not-is_fitting : goal.returns-then-not-is_fitting
-returns-then-not-is_fitting c = sym (open_misfit 32 256 _ _ _ (sym c.is_openable.ensures ∙ c.if-not-is_openable.false) (sym c.is_fitting.ensures ∙ c.if-not-is_fitting.true))
+pub copy_from_slice-requires : goal.copy_from_slice-requires
+copy_from_slice-requires c = (long 32 256 _ (sym c.is_fitting.ensures ∙ c.if-not-is_fitting.false)).head
 
-pub bounds-head-0 : goal.bounds-head-0
-bounds-head-0 c = omega (arith, (long 32 256 _ (sym c.is_fitting.ensures ∙ c.if-not-is_fitting.false)).head)
-
-pub bounds-head-1 : goal.bounds-head-1
-bounds-head-1 c = simp length-set (omega (arith, (long 32 256 _ (sym c.is_fitting.ensures ∙ c.if-not-is_fitting.false)).head))
-
-pub bounds-head-2 : goal.bounds-head-2
-bounds-head-2 c = simp length-set (omega (arith, (long 32 256 _ (sym c.is_fitting.ensures ∙ c.if-not-is_fitting.false)).head))
-
-pub fill-requires : goal.fill-requires
-fill-requires c = omega (arith, (long 32 256 _ (sym c.is_fitting.ensures ∙ c.if-not-is_fitting.false)).values, (counted _ _ (sym c.is_openable.ensures ∙ c.if-not-is_openable.false)).1)
+pub split_at_mut-used-requires : goal.split_at_mut-used-requires
+split_at_mut-used-requires c = omega (arith, (counted _ _ (sym c.is_openable.ensures ∙ c.if-not-is_openable.false)).1, (long 32 256 _ (sym c.is_fitting.ensures ∙ c.if-not-is_fitting.false)).values)
 
 pub returns : goal.returns
 returns c =
-    open_made 32 256 _ _ _ (sym c.is_openable.ensures ∙ c.if-not-is_openable.false) (sym c.is_fitting.ensures ∙ c.if-not-is_fitting.false) _ _ _ _ c.fill.ensures c.clear_from_u32.ensures c.no_rows.ensures c.clear_from.ensures
+    let zero : c.default.result ≡ zero_row = λ j. record { number = record { 0 = c.default.ensures.0 j }; start = record { 0 = c.default.ensures.1.0 j }; commit = record { 0 = c.default.ensures.1.1 j } } in
+    (λ j. (Ok 0, raw (c.copy_from_slice.ensures.after j) (c.copy_from_slice-2.new.self ++ c.fill.new.self) c.fill-2.new.self c.fill-3.new.self c.fill-4.new.self))
+    ∙ open_made 32 256 _ _ _ (sym c.is_openable.ensures ∙ c.if-not-is_openable.false) (sym c.is_fitting.ensures ∙ c.if-not-is_fitting.false)
+    (λ j. c.copy_from_slice-2.ensures.after j ++ (c.fill.ensures.after (λ h h'. h') ∙ ap (λ (l : List ℕ). replicate (length l) 0) c.split_at_mut-used.ensures.back) j)
+    (c.fill-2.ensures.after (λ h h'. h'))
+    (c.fill-3.ensures.after (λ h h'. h') ∙ ap (replicate (length c.args.rows.now)) zero)
+    (c.fill-4.ensures.after (λ h h'. h'))

@@ -1,7 +1,6 @@
--- `scheduler::begin` meets its contract: the tables are unsound, or the call on sound tables answers. Assumes nothing.
-use Rattle.std.proofs.Common.{◌∙◌, sym}
-use Rattle.laws.proofs.Refusals.{on-unsound}
+-- `scheduler::begin` meets its contract where the tables are refused. Assumes nothing.
+use Rattle.scheduler.proofs.Exits.{refused}
 use Rattle.scheduler.proofs.begin.Goals as goal
 
-pub returns-then-not-sound : goal.returns-then-not-sound
-returns-then-not-sound c = sym (on-unsound 32 256 _ _ (sym c.sound.ensures ∙ c.if-not-sound.true))
+pub returns-in_err-check : goal.returns-in_err-check
+returns-in_err-check c = refused _ _ c.from_residual.ensures c.in_err-check.ensures
