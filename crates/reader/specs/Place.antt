@@ -1,15 +1,14 @@
 -- What stands at a place of a file, and the place behind it. Assumes nothing.
-use Rattle.std.specs.Prelude.{ℕ, ◌+◌, List}
-use Rattle.steps.specs.declared.Decoded.{Decoded}
-use Rattle.steps.specs.declared.Decoded.TheVariants.{Good, Bad}
+use Rattle.std.specs.Prelude.{ℕ, ◌+◌, List, Option, None, Some}
+use Rattle.terms.specs.declared.Step.{Step}
 use Rattle.steps.specs.Decoding.{decoded}
 use Rattle.steps.proofs.Unfold.{part_at}
 use Rattle.reader.specs.declared.Next.{Next}
 
 -- a place moved on past a good step; a bad one is not passed
-abbrev pub after : ℕ → Decoded → ℕ
-after at (Good s n) = at + n
-after at Bad = at
+abbrev pub after : ℕ → Option (Step × ℕ) → ℕ
+after at (Some (s, n)) = at + n
+after at None = at
 
 -- "each step is decoded from the part of the file that starts at its kind byte"
 unfoldable pub next_at : List ℕ → ℕ → Next

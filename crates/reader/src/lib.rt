@@ -1,10 +1,11 @@
 // The step reader: it keeps the caller's bytes and its place in them.
 #![tactic(auto)]
 
-ghost use Rattle.std.specs.Prelude.{◌≡◌, ◌≤◌, ◌<◌, ◌^◌, length};
-ghost use Rattle.reader.specs.Place.{next_at, after};
+ghost use Rattle.std.specs.Prelude.{◌≡◌, ◌≤◌, length};
+ghost use Rattle.reader.specs.Place.{next_at};
 
-use steps::{Decoded, decode};
+use steps::decode;
+use terms::Step;
 
 #[derive(Clone, Copy)]
 pub struct StepReader<'a> {
@@ -15,37 +16,27 @@ pub struct StepReader<'a> {
 // What stands at a place, and the place behind it.
 #[derive(Clone, Copy)]
 pub struct Next {
-    pub decoded: Decoded,
+    pub decoded: Option<(Step, usize)>,
     pub at: usize,
 }
 
-// A place moved on past what stands there; a bad step is not passed.
-fn past(at: usize, d: Decoded) -> usize
-    requires { after at d < 2 ^ 64 }
-    ensures { result ≡ after at d }
-{
-    match d {
-        Decoded::Good(_, n) => at + n,
-        Decoded::Bad => at,
-    }
-}
-
-// The work: the step is decoded from the part of the file that starts at the place.
+// The work: the step is decoded from the part of the file that starts at the place. A bad step is not passed.
+#[tactic(auto, unfolding(crate::specs::Place::next_at))]
 fn next_at(file: &[u8], at: usize) -> Next
     requires { at ≤ length file.now }
     ensures { result ≡ next_at file.now at }
 {
-    let d = decode(&file[at..]);
-    let next = past(at, d);
-    Next {
-        decoded: d,
-        at: next,
-    }
+    let decoded = decode(&file[at..]);
+    let at = match decoded {
+        Some((_, n)) => at + n,
+        None => at,
+    };
+    Next { decoded, at }
 }
 
 impl<'a> StepReader<'a> {
     // One step: what stands at the place, and the place moves on.
-    pub fn step(&mut self) -> Decoded
+    pub fn step(&mut self) -> Option<(Step, usize)>
         requires { self.old.at ≤ length self.old.file.now }
         ensures { (result ≡ (next_at self.old.file.now self.old.at).decoded)
             × (self.new.file ≡ self.old.file)

@@ -9,8 +9,7 @@ use lib.Dec.{eqb, leb}
 use lib.ListN.{get_or-eq_default, length}
 use borrow.Author.Tests.{eq-eqb, eqb-false, eqb-true, le-leb, leb-false, leb-true, lt-leb, ne_eqb}
 use Rattle.terms.specs.declared.Step.{Step}
-use Rattle.steps.specs.declared.Decoded.{Decoded}
-use Rattle.steps.specs.declared.Decoded.TheVariants.{Bad, Good}
+use Rattle.std.specs.Prelude.{Option, None, Some}
 use Rattle.steps.specs.Decoding.{decoded, kind_of, length_of, step_of, whole}
 use Rattle.steps.specs.Spelling.{BadRest}
 
@@ -58,14 +57,6 @@ module _ (p : List ℕ) where
   unfolding whole
   whole_cut l = rw (lt-leb (length_of (kind_of p)) (length p) l)
 
-  pub whole-none : length p ≡ 0 → whole p ≡ 0
-  unfolding length_of
-  whole-none e = whole_cut (none p e)
-    where
-      none : (p : List ℕ) → length p ≡ 0 → length p < length_of (kind_of p)
-      none [] e = omega arith
-      none (b ∷ q) e = absurd (omega arith)
-
   -- the step is there with all its bytes, or there is none
   pub whole-cases : ((whole p ≡ length_of (kind_of p)) × (length_of (kind_of p) ≤ length p)) ⊎ ((whole p ≡ 0) × (length p < length_of (kind_of p)))
   whole-cases = go (leb (length_of (kind_of p)) (length p)) refl
@@ -89,51 +80,50 @@ module _ (p : List ℕ) where
   pub last_kind : 0 < whole p → 5 < kind_of p → kind_of p ≡ 6
   last_kind h l = elim (kind_cases (kind_of p)) [ inl (k, n) ↦ omega (arith, k, l) | inr (k, n) ↦ absurd (omega (arith, n, (whole_is h).0, h)) ]
 
-  pub step_is : {k : ℕ} {s : Step} → kind_of p ≡ k → s ≡ step_of k p → s ≡ step_of (kind_of p) p
-  step_is e h = h ∙ ap (λ (k : ℕ). step_of k p) (sym e)
-
   -- ---- decoding
 
-  outcome : Bool → Decoded
-  outcome b = cond b Bad (Good (step_of (kind_of p) p) (whole p))
+  outcome : Bool → Option (Step × ℕ)
+  outcome b = cond b None (Some (step_of (kind_of p) p, whole p))
 
-  pub decoded-bad : whole p ≡ 0 → decoded p ≡ Bad
+  pub decoded_bad : whole p ≡ 0 → decoded p ≡ None
   unfolding decoded outcome
-  decoded-bad e = ap outcome (eq-eqb (whole p) 0 e)
+  decoded_bad e = ap outcome (eq-eqb (whole p) 0 e)
 
-  pub decoded_good : 0 < whole p → decoded p ≡ Good (step_of (kind_of p) p) (whole p)
+  pub decoded_good : 0 < whole p → decoded p ≡ Some (step_of (kind_of p) p, whole p)
   unfolding decoded outcome
   decoded_good l = ap outcome (ne_eqb (whole p) 0 (λ e. omega (arith, e, l)))
 
-  pub bad-is : decoded p ≡ Bad → whole p ≡ 0
+  pub bad-is : decoded p ≡ None → whole p ≡ 0
   unfolding decoded outcome
   bad-is e = go (eqb (whole p) 0) refl e
     where
-      go : (b : Bool) → eqb (whole p) 0 ≡ b → outcome b ≡ Bad → whole p ≡ 0
+      go : (b : Bool) → eqb (whole p) 0 ≡ b → outcome b ≡ None → whole p ≡ 0
       go true q e = eqb-true (whole p) 0 q
       go false q e = let z : ◌≡◌ {A = ℕ} 0 1 = cc in omega arith
 
-  pub good_is : {s : Step} {n : ℕ} → decoded p ≡ Good s n → (s ≡ step_of (kind_of p) p) × (n ≡ whole p) × (0 < whole p)
+  pub good_is : {s : Step} {n : ℕ} → decoded p ≡ Some (s, n) → (s ≡ step_of (kind_of p) p) × (n ≡ whole p) × (0 < whole p)
   unfolding decoded outcome
   good_is {s} {n} e = go (eqb (whole p) 0) refl e
     where
-      go : (b : Bool) → eqb (whole p) 0 ≡ b → outcome b ≡ Good s n → (s ≡ step_of (kind_of p) p) × (n ≡ whole p) × (0 < whole p)
+      go : (b : Bool) → eqb (whole p) 0 ≡ b → outcome b ≡ Some (s, n) → (s ≡ step_of (kind_of p) p) × (n ≡ whole p) × (0 < whole p)
       go true q e = absurd (let z : ◌≡◌ {A = ℕ} 0 1 = cc in omega arith)
-      go false q e = ((cc), (cc), omega (arith, eqb-false (whole p) 0 q))
+      go false q e =
+          let both : ◌≡◌ {A = Step × ℕ} (s, n) (step_of (kind_of p) p, whole p) = cc in
+          (ap (λ (v : Step × ℕ). v.0) both, ap (λ (v : Step × ℕ). v.1) both, omega (arith, eqb-false (whole p) 0 q))
 
   -- a step has a byte at least, and lies inside the part
-  pub good_length : {s : Step} {n : ℕ} → decoded p ≡ Good s n → (0 < n) × (n ≤ length p)
+  pub good_length : {s : Step} {n : ℕ} → decoded p ≡ Some (s, n) → (0 < n) × (n ≤ length p)
   good_length e = let v = good_is e in (omega (arith, v.1, v.2), omega (arith, v.1, whole_most))
 
 -- ---- bad parts are those whose kind is unknown or whose body is cut
 
-pub bad-rest : (p : List ℕ) → 0 < length p → decoded p ≡ Bad → BadRest p
+pub bad-rest : (p : List ℕ) → 0 < length p → decoded p ≡ None → BadRest p
 bad-rest [] l e = absurd (omega arith)
 bad-rest (k ∷ q) l e =
     let w = bad-is (k ∷ q) e in
     (l, elim (whole-cases (k ∷ q)) [ inr (u, c) ↦ inr c | inl (u, c) ↦ elim (kind_cases k) [ inr (a, n) ↦ inl a | inl (a, n) ↦ absurd (omega (arith, n, u, w)) ] ])
 
-pub rest-bad : (p : List ℕ) → BadRest p → decoded p ≡ Bad
+pub rest-bad : (p : List ℕ) → BadRest p → decoded p ≡ None
 rest-bad [] (l, c) = absurd (omega arith)
-rest-bad (k ∷ q) (l, inl u) = decoded-bad (k ∷ q) (whole-fits (k ∷ q) (omega (arith, unknown_length k u)) ∙ unknown_length k u)
-rest-bad (k ∷ q) (l, inr c) = decoded-bad (k ∷ q) (whole_cut (k ∷ q) c)
+rest-bad (k ∷ q) (l, inl u) = decoded_bad (k ∷ q) (whole-fits (k ∷ q) (omega (arith, unknown_length k u)) ∙ unknown_length k u)
+rest-bad (k ∷ q) (l, inr c) = decoded_bad (k ∷ q) (whole_cut (k ∷ q) c)

@@ -10,8 +10,7 @@ use lib.Seq.{drop-append_seam}
 use Rattle.terms.specs.declared.Step.{Step}
 use Rattle.rules.specs.Lists.{all}
 use Rattle.laws.proofs.Lists.{and_both, and_left, and_right}
-use Rattle.steps.specs.declared.Decoded.{Decoded}
-use Rattle.steps.specs.declared.Decoded.TheVariants.{Bad, Good}
+use Rattle.std.specs.Prelude.{Option, None, Some}
 use Rattle.steps.specs.Format.{byte, bytes_of, bytes_of_all, writable}
 use Rattle.steps.specs.Decoding.{BadAt, Contents, End, and_then, contents, contents_from, decoded}
 use Rattle.steps.specs.Spelling.{BadRest, Ending, Spells, bad, nothing}
@@ -46,9 +45,9 @@ module _ (at : ℕ) where
   turn [] h more = subst (λ (c : Contents). Spells at [] c) (sym (contents-done at)) (ended nothing)
   turn (b ∷ q) h more = go (decoded (b ∷ q)) refl
     where
-      go : (d : Decoded) → decoded (b ∷ q) ≡ d → Spells at (b ∷ q) (contents_from at 0 (b ∷ q))
-      go Bad e = subst (λ (c : Contents). Spells at (b ∷ q) c) (sym (contents-bad at (b ∷ q) (omega arith) e)) (ended (bad (bad-rest (b ∷ q) (omega arith) e)))
-      go (Good s n) e =
+      go : (d : Option (Step × ℕ)) → decoded (b ∷ q) ≡ d → Spells at (b ∷ q) (contents_from at 0 (b ∷ q))
+      go None e = subst (λ (c : Contents). Spells at (b ∷ q) c) (sym (contents-bad at (b ∷ q) (omega arith) e)) (ended (bad (bad-rest (b ∷ q) (omega arith) e)))
+      go (Some (s, n)) e =
           let l = good_length (b ∷ q) e in
           subst (λ (c : Contents). Spells at (b ∷ q) c) (sym (contents_good at (b ∷ q) e)) (stepped (decoded_there (b ∷ q) h e) (more n l.0 l.1))
 

@@ -87,13 +87,12 @@ module _ (p : List ℕ) where
   unfolding field number
   field-none at = refl
 
-  pub two_bytes : (at : ℕ) {a b : ℕ} → at + 2 ≤ length p → a ≡ get_or p at 0 → b ≡ get_or p (at + 1) 0 → a + 256 * b ≡ field at 2 p
-  two_bytes at l e f = omega (arith, e, f, field_two at 0 (omega arith), field-none (at + 2))
+  pub two_bytes : (at : ℕ) → at + 2 ≤ length p → field at 2 p ≡ get_or p at 0 + 256 * get_or p (at + 1) 0
+  two_bytes at l = omega (arith, field_two at 0 (omega arith), field-none (at + 2))
 
-  pub four_bytes : (at : ℕ) {a b c d : ℕ} → at + 4 ≤ length p → a ≡ get_or p at 0 → b ≡ get_or p (at + 1) 0 → c ≡ get_or p (at + 2) 0 → d ≡ get_or p (at + 3) 0
-      → a + 256 * b + 65536 * c + 16777216 * d ≡ field at 4 p
-  four_bytes at l e f g h =
+  pub four_bytes : (at : ℕ) → at + 4 ≤ length p → field at 4 p ≡ get_or p at 0 + 256 * get_or p (at + 1) 0 + 65536 * get_or p (at + 2) 0 + 16777216 * get_or p (at + 3) 0
+  four_bytes at l =
       let three : at + 2 + 1 ≡ at + 3 = omega arith in
       let two : field (at + 2) 2 p ≡ get_or p (at + 2) 0 + 256 * (get_or p (at + 3) 0 + 256 * 0) =
       field_two (at + 2) 0 (omega arith) ∙ (λ j. get_or p (at + 2) 0 + 256 * (get_or p (three j) 0 + 256 * field-none (at + 2 + 2) j)) in
-      omega (arith, e, f, g, h, field_two at 2 (omega arith), two)
+      omega (arith, field_two at 2 (omega arith), two)

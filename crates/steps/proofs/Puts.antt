@@ -1,32 +1,39 @@
 -- Answers written into a buffer, one after the other, and read back. Assumes nothing.
-use Prim.Native.Nat.{ℕ, suc, ◌+◌, ◌*◌, ◌/◌, ◌%◌, ◌<◌, ◌≤◌}
+use Prim.Native.Nat.{ℕ, suc, ◌+◌, ◌-◌, ◌*◌, ◌/◌, ◌%◌, ◌<◌, ◌≤◌}
 use native.Mathlib.Nat.{div-div-eq-div-mul}
 use native.Mathlib.Omega.{arith}
 use mathlib.Core.List.{List, [], ◌∷◌, ◌++◌, append_assoc, append-nil}
 use mathlib.Core.Path.{◌≡◌, ◌∙◌, ap, refl, sym}
-use lib.ListN.{drop, length, length-append, length-drop, set}
-use lib.Seq.{drop_at, drop-drop, sets-eq, take_at}
+use lib.ListN.{drop, length, length-append, length-drop, set, take}
+use lib.Seq.{drop_at, drop-drop, take_at}
+use borrow.Rule.Slice.PartMut.{put_mid}
+use Rattle.std.proofs.lemmas.List.{drop-set-lt, take_more_set}
 use Rattle.terms.specs.declared.Given.{Given}
 use Rattle.steps.specs.Format.{le}
 use Rattle.steps.specs.Answers.{answer_at, answer_bytes, encoded, with_answers}
 use Rattle.steps.specs.Decoding.{number}
 use Rattle.steps.proofs.Numbers.{length-le, number-le}
 
--- five stores
-pub five : (out : List ℕ) (at : ℕ) (g : Given) → at + 5 ≤ length out
-    → set (set (set (set (set out at g.number) (at + 1) (g.value % 256)) (at + 2) (g.value / 256 % 256)) (at + 3) (g.value / 65536 % 256)) (at + 4) (g.value / 16777216 % 256)
-    ≡ answer_at at g out
-unfolding answer_at answer_bytes le
-five out at g l =
-    let v = g.value in
-    let one : at + 1 ≡ suc at = omega arith in
-    let two : at + 2 ≡ suc (suc at) = omega arith in
-    let three : at + 3 ≡ suc (suc (suc at)) = omega arith in
-    let four : at + 4 ≡ suc (suc (suc (suc at))) = omega arith in
-    let third : v / 65536 % 256 ≡ v / 256 / 256 % 256 = ap (λ (n : ℕ). n % 256) (sym (div-div-eq-div-mul v 256 256)) in
-    let fourth : v / 16777216 % 256 ≡ v / 256 / 256 / 256 % 256 = ap (λ (n : ℕ). n % 256) (sym (ap (λ (n : ℕ). n / 256) (div-div-eq-div-mul v 256 256) ∙ div-div-eq-div-mul v 65536 256)) in
-    (λ j. set (set (set (set (set out at g.number) (one j) (v % 256)) (two j) (v / 256 % 256)) (three j) (third j)) (four j) (fourth j))
-    ∙ sets-eq (g.number ∷ le 4 v) out at l
+le_four : (v : ℕ) → (v % 256) ∷ (v / 256 % 256) ∷ (v / 65536 % 256) ∷ (v / 16777216 % 256) ∷ [] ≡ le 4 v
+unfolding le
+le_four v =
+    let third : v / 65536 ≡ v / 256 / 256 = sym (div-div-eq-div-mul v 256 256) in
+    let fourth : v / 16777216 ≡ v / 256 / 256 / 256 = sym (ap (λ (n : ℕ). n / 256) (div-div-eq-div-mul v 256 256) ∙ div-div-eq-div-mul v 65536 256) in
+    λ j. (v % 256) ∷ (v / 256 % 256) ∷ (third j % 256) ∷ (fourth j % 256) ∷ []
+
+-- the number is stored, and the value's bytes are copied behind it
+pub number_and_value : (out : List ℕ) (at : ℕ) (g : Given) {bytes : List ℕ} → at + 5 ≤ length out
+    → bytes ≡ (g.value % 256) ∷ (g.value / 256 % 256) ∷ (g.value / 65536 % 256) ∷ (g.value / 16777216 % 256) ∷ []
+    → put_mid (at + 1) (at + 5 - (at + 1)) (set out at g.number) bytes ≡ answer_at at g out
+unfolding answer_at answer_bytes
+number_and_value out at g {bytes} l e =
+    let v = e ∙ le_four g.value in
+    let k = at + 5 - (at + 1) in
+    let five : at + 1 + k ≡ at + 5 = omega arith in
+    let front : take (at + 1) (set out at g.number) ≡ take at out ++ g.number ∷ [] = take_more_set out at g.number (omega arith) in
+    let back : drop k (drop (at + 1) (set out at g.number)) ≡ drop (at + 5) out =
+    drop-drop k (at + 1) (set out at g.number) ∙ ap (λ (n : ℕ). drop n (set out at g.number)) five ∙ drop-set-lt (at + 5) out at g.number (omega arith) in
+    (λ j. front j ++ (v j ++ back j)) ∙ simp append_assoc
 
 pub length_answer : (g : Given) → length (answer_bytes g) ≡ 5
 unfolding answer_bytes

@@ -12,7 +12,7 @@ use Rattle.terms.specs.declared.Step.{Step}
 use Rattle.terms.specs.declared.Step.TheVariants.{Abort, Begin, Commit, Latest, Open, Read, Write}
 use Rattle.rules.specs.Lists.{all}
 use Rattle.laws.proofs.Lists.{and_both, and_right}
-use Rattle.steps.specs.declared.Decoded.TheVariants.{Good}
+use Rattle.std.specs.Prelude.{Some}
 use Rattle.steps.specs.Format.{byte, bytes_of, le, short, writable}
 use Rattle.steps.specs.Decoding.{decoded, field, kind_of, length_of, number, step_of}
 use Rattle.steps.proofs.Numbers.{field_back, field_small, number-le}
@@ -32,29 +32,29 @@ length_bytes (Abort t) = refl
 length_bytes (Latest i) = refl
 
 -- a step whose kind byte stands before enough bytes
-read : (k : ℕ) (q : List ℕ) → 0 < length_of k → length_of k ≤ length (k ∷ q) → decoded (k ∷ q) ≡ Good (step_of k (k ∷ q)) (length_of k)
+read : (k : ℕ) (q : List ℕ) → 0 < length_of k → length_of k ≤ length (k ∷ q) → decoded (k ∷ q) ≡ Some (step_of k (k ∷ q), length_of k)
 read k q h l =
     let w = whole-fits (k ∷ q) l in
-    decoded_good (k ∷ q) (omega (arith, w, h)) ∙ ap (Good (step_of k (k ∷ q))) w
+    decoded_good (k ∷ q) (omega (arith, w, h)) ∙ ap (λ (n : ℕ). Some (step_of k (k ∷ q), n)) w
 
 two_back : (n : ℕ) → short n ≡ true → number (le 2 n) ≡ n
 two_back n h = number-le 2 n (ltb-true n 65536 h)
 
-pub bytes_decoded : (s : Step) (q : List ℕ) → writable s ≡ true → decoded (bytes_of s ++ q) ≡ Good s (length (bytes_of s))
+pub bytes_decoded : (s : Step) (q : List ℕ) → writable s ≡ true → decoded (bytes_of s ++ q) ≡ Some (s, length (bytes_of s))
 unfolding bytes_of writable le step_of field length_of
-bytes_decoded (Open c) q h = read 0 (le 2 c ++ q) (omega arith) (omega arith) ∙ (λ j. Good (Open (two_back c h j)) 3)
+bytes_decoded (Open c) q h = read 0 (le 2 c ++ q) (omega arith) (omega arith) ∙ (λ j. Some (Open (two_back c h j), 3))
 bytes_decoded Begin q h = read 1 q (omega arith) (omega arith)
 bytes_decoded (Read t i) q h =
     let v = simp and-eq-true_iff at h in
     read 2 ((le 2 t.0 ++ le 2 i.0) ++ q) (omega arith) (omega arith)
-    ∙ (λ j. Good (Read (record { 0 = two_back t.0 v.0 j }) (record { 0 = two_back i.0 v.1 j })) 5)
+    ∙ (λ j. Some (Read (record { 0 = two_back t.0 v.0 j }) (record { 0 = two_back i.0 v.1 j }), 5))
 bytes_decoded (Write t i x) q h =
     let v = simp and-eq-true_iff at h in
     read 3 ((le 2 t.0 ++ le 2 i.0 ++ le 4 x) ++ q) (omega arith) (omega arith)
-    ∙ (λ j. Good (Write (record { 0 = two_back t.0 v.0.0 j }) (record { 0 = two_back i.0 v.0.1 j }) (number-le 4 x (ltb-true x 4294967296 v.1) j)) 9)
-bytes_decoded (Commit t) q h = read 4 (le 2 t.0 ++ q) (omega arith) (omega arith) ∙ (λ j. Good (Commit (record { 0 = two_back t.0 h j })) 3)
-bytes_decoded (Abort t) q h = read 5 (le 2 t.0 ++ q) (omega arith) (omega arith) ∙ (λ j. Good (Abort (record { 0 = two_back t.0 h j })) 3)
-bytes_decoded (Latest i) q h = read 6 (le 2 i.0 ++ q) (omega arith) (omega arith) ∙ (λ j. Good (Latest (record { 0 = two_back i.0 h j })) 3)
+    ∙ (λ j. Some (Write (record { 0 = two_back t.0 v.0.0 j }) (record { 0 = two_back i.0 v.0.1 j }) (number-le 4 x (ltb-true x 4294967296 v.1) j), 9))
+bytes_decoded (Commit t) q h = read 4 (le 2 t.0 ++ q) (omega arith) (omega arith) ∙ (λ j. Some (Commit (record { 0 = two_back t.0 h j }), 3))
+bytes_decoded (Abort t) q h = read 5 (le 2 t.0 ++ q) (omega arith) (omega arith) ∙ (λ j. Some (Abort (record { 0 = two_back t.0 h j }), 3))
+bytes_decoded (Latest i) q h = read 6 (le 2 i.0 ++ q) (omega arith) (omega arith) ∙ (λ j. Some (Latest (record { 0 = two_back i.0 h j }), 3))
 
 -- ---- one step: what is read is there, byte for byte
 
@@ -103,7 +103,7 @@ module _ (q : List ℕ) (h : all byte q ≡ true) where
       (λ l. record { same = one_number 5 h l; fits = two_small 5 h 1; long = refl })
       (λ l. record { same = one_number 6 h l; fits = two_small 6 h 1; long = refl })
 
-pub decoded_there : (p : List ℕ) {s : Step} {n : ℕ} → all byte p ≡ true → decoded p ≡ Good s n → (p ≡ bytes_of s ++ drop n p) × (writable s ≡ true) × (length (bytes_of s) ≡ n)
+pub decoded_there : (p : List ℕ) {s : Step} {n : ℕ} → all byte p ≡ true → decoded p ≡ Some (s, n) → (p ≡ bytes_of s ++ drop n p) × (writable s ≡ true) × (length (bytes_of s) ≡ n)
 decoded_there [] h e = let v = good_length [] e in absurd (omega (arith, v.0, v.1))
 decoded_there (k ∷ q) {s} {n} h e =
     let v = good_is (k ∷ q) e in

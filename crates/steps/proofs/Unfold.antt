@@ -7,8 +7,7 @@ use mathlib.Core.Path.{◌≡◌, ◌∙◌, ap, refl, sym}
 use lib.ListN.{drop, drop_of_length-le, length, length-drop, take}
 use lib.Seq.{drop-drop, take_all}
 use Rattle.terms.specs.declared.Step.{Step}
-use Rattle.steps.specs.declared.Decoded.{Decoded}
-use Rattle.steps.specs.declared.Decoded.TheVariants.{Bad, Good}
+use Rattle.std.specs.Prelude.{Option, None, Some}
 use Rattle.steps.specs.Decoding.{BadAt, Done, and_then, contents, contents_from, decoded, onward}
 use Rattle.steps.proofs.Bodies.{good_length}
 
@@ -23,15 +22,15 @@ pub contents-done : (at : ℕ) → contents_from at 0 [] ≡ contents [] Done
 unfolding contents_from
 contents-done at = refl
 
-pub contents-bad : (at : ℕ) (p : List ℕ) → 0 < length p → decoded p ≡ Bad → contents_from at 0 p ≡ contents [] (BadAt at)
+pub contents-bad : (at : ℕ) (p : List ℕ) → 0 < length p → decoded p ≡ None → contents_from at 0 p ≡ contents [] (BadAt at)
 unfolding contents_from
 contents-bad at [] l e = absurd (omega arith)
-contents-bad at (b ∷ p) l e = ap (λ (d : Decoded). onward at d (λ n. contents_from (suc at) (n - 1) p)) e
+contents-bad at (b ∷ p) l e = ap (λ (d : Option (Step × ℕ)). onward at d (λ n. contents_from (suc at) (n - 1) p)) e
 
-pub contents_good : (at : ℕ) (p : List ℕ) {s : Step} {n : ℕ} → decoded p ≡ Good s n → contents_from at 0 p ≡ and_then s (contents_from (at + n) 0 (drop n p))
+pub contents_good : (at : ℕ) (p : List ℕ) {s : Step} {n : ℕ} → decoded p ≡ Some (s, n) → contents_from at 0 p ≡ and_then s (contents_from (at + n) 0 (drop n p))
 unfolding contents_from
 contents_good at [] e = let v = good_length [] e in absurd (omega (arith, v.0, v.1))
-contents_good at (b ∷ p) {s} {n} e = ap (λ (d : Decoded). onward at d (λ k. contents_from (suc at) (k - 1) p)) e ∙ ap (and_then s) (go n (good_length (b ∷ p) e).0)
+contents_good at (b ∷ p) {s} {n} e = ap (λ (d : Option (Step × ℕ)). onward at d (λ k. contents_from (suc at) (k - 1) p)) e ∙ ap (and_then s) (go n (good_length (b ∷ p) e).0)
   where
     go : (n : ℕ) → 0 < n → contents_from (suc at) (n - 1) p ≡ contents_from (at + n) 0 (drop n (b ∷ p))
     go zero l = absurd (omega arith)
@@ -52,10 +51,10 @@ module _ (file : List ℕ) (at : ℕ) where
   pub next-done : length file ≤ at → contents_from at 0 (drop at file) ≡ contents [] Done
   next-done l = ap (contents_from at 0) (drop_of_length-le file l) ∙ contents-done at
 
-  pub next-bad : at < length file → decoded part_at ≡ Bad → contents_from at 0 (drop at file) ≡ contents [] (BadAt at)
+  pub next-bad : at < length file → decoded part_at ≡ None → contents_from at 0 (drop at file) ≡ contents [] (BadAt at)
   next-bad l e = contents-bad at (drop at file) (simp length-drop (omega arith)) (ap decoded (sym part_on) ∙ e)
 
-  module _ {s : Step} {n : ℕ} (e : decoded part_at ≡ Good s n) where
+  module _ {s : Step} {n : ℕ} (e : decoded part_at ≡ Some (s, n)) where
     pub next_good : contents_from at 0 (drop at file) ≡ and_then s (contents_from (at + n) 0 (drop (at + n) file))
     next_good = contents_good at (drop at file) (ap decoded (sym part_on) ∙ e) ∙ ap (λ (p : List ℕ). and_then s (contents_from (at + n) 0 p)) (drop-drop n at file)
 

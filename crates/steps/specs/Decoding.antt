@@ -1,9 +1,7 @@
 -- What a part of a file that starts at a kind byte holds, and what a whole file does. Assumes nothing.
-use Rattle.std.specs.Prelude.{ℕ, zero, suc, ◌+◌, ◌*◌, ◌-◌, cond, List, [], ◌∷◌, eqb, leb, length, get_or, take, drop}
+use Rattle.std.specs.Prelude.{ℕ, zero, suc, ◌+◌, ◌*◌, ◌-◌, cond, List, [], ◌∷◌, Option, None, Some, eqb, leb, length, get_or, take, drop}
 use Rattle.terms.specs.declared.Step.{Step}
 use Rattle.terms.specs.declared.Step.TheVariants.{Open, Begin, Read, Write, Commit, Abort, Latest}
-use Rattle.steps.specs.declared.Decoded.{Decoded}
-use Rattle.steps.specs.declared.Decoded.TheVariants.{Good, Bad}
 
 -- "numbers little-endian"
 unfoldable pub number : List ℕ → ℕ
@@ -41,9 +39,9 @@ step_of kind p =
     kind
     Begin
 
--- "each step is decoded from the part of the file that starts at its kind byte": the step and its length, or a bad step, "unknown kind or cut body"
-unfoldable pub decoded : List ℕ → Decoded
-decoded p = cond (eqb (whole p) 0) Bad (Good (step_of (kind_of p) p) (whole p))
+-- "each step is decoded from the part of the file that starts at its kind byte": the step and its length, or none: a bad step, "unknown kind or cut body"
+unfoldable pub decoded : List ℕ → Option (Step × ℕ)
+decoded p = cond (eqb (whole p) 0) None (Some (step_of (kind_of p) p, whole p))
 
 -- How a file ends: after its last step, or with a bad one, whose kind byte has an offset.
 pub data End : Type 0 where
@@ -62,9 +60,9 @@ abbrev pub and_then : Step → Contents → Contents
 and_then s h = contents (s ∷ h.steps) h.end
 
 -- what stands at an offset, and what follows: rest n, after n bytes
-abbrev pub onward : ℕ → Decoded → (ℕ → Contents) → Contents
-onward at Bad rest = contents [] (BadAt at)
-onward at (Good s n) rest = and_then s (rest n)
+abbrev pub onward : ℕ → Option (Step × ℕ) → (ℕ → Contents) → Contents
+onward at None rest = contents [] (BadAt at)
+onward at (Some (s, n)) rest = and_then s (rest n)
 
 -- What a file holds from an offset on. The first k bytes from there belong to the step before, and are passed over.
 unfoldable pub contents_from : ℕ → ℕ → List ℕ → Contents

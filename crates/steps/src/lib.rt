@@ -1,81 +1,59 @@
 // Steps read from the bytes of a step file, and answers written as bytes.
 #![tactic(auto)]
 
-ghost use Rattle.std.specs.Prelude.{◌≡◌, ◌+◌, ◌≤◌, ◌<◌, length};
+ghost use Rattle.std.specs.Prelude.{◌≡◌, ◌+◌, ◌≤◌, ◌<◌, length, MatchOption};
 ghost use Rattle.steps.specs.Decoding.{answers_of, decoded, field, kind_of, length_of, step_of, steps_of, whole};
 ghost use Rattle.steps.specs.Answers.{answer_at};
 
 use terms::{Given, ItemNo, Step, TxnNo};
 
-// What stands at the front of a part of a file: a step and its length in bytes, or a bad step.
-#[derive(Clone, Copy)]
-pub enum Decoded {
-    Good(Step, usize),
-    Bad,
-}
-
-fn wide(b: u8) -> u32
-    ensures { (result ≡ b) × (result < 256) }
-{
-    b as u32
-}
-
 // The number in two bytes.
+#[tactic(auto, using(crate::proofs::Numbers::two_bytes))]
 fn two(part: &[u8], at: usize) -> u32
     requires { at + 2 ≤ length part.now }
     ensures { result ≡ field at 2 part.now }
 {
-    let low = part[at];
-    let high = part[at + 1];
-    wide(low) + 256 * wide(high)
+    u32::from(u16::from_le_bytes([part[at], part[at + 1]]))
 }
 
 // The number in four bytes.
+#[tactic(auto, using(crate::proofs::Numbers::four_bytes))]
 pub fn four(part: &[u8], at: usize) -> u32
     requires { at + 4 ≤ length part.now }
     ensures { result ≡ field at 4 part.now }
 {
-    wide(part[at])
-        + 256 * wide(part[at + 1])
-        + 65536 * wide(part[at + 2])
-        + 16777216 * wide(part[at + 3])
+    u32::from_le_bytes([part[at], part[at + 1], part[at + 2], part[at + 3]])
 }
 
-// How long a step of a kind is; 0 for an unknown kind.
+// How long a step of a kind is. The kinds have no enum of their own: it would have the names of `Step` again.
 #[tactic(auto, unfolding(crate::specs::Decoding::length_of))]
-fn length_of(kind: u8) -> usize
-    ensures { result ≡ length_of kind }
+fn length_of(kind: u8) -> Option<usize>
+    ensures { MatchOption result (length_of kind ≡ 0) (λ n. (n ≡ length_of kind) × (0 < n)) }
 {
     match kind {
-        0 | 4 | 5 | 6 => 3,
-        1 => 1,
-        2 => 5,
-        3 => 9,
-        _ => 0,
+        0 | 4 | 5 | 6 => Some(3),
+        1 => Some(1),
+        2 => Some(5),
+        3 => Some(9),
+        _ => None,
     }
 }
 
-// How long the step at the front of a part is; 0 where its kind is unknown or its body is cut.
+// How long the step at the front of a part is, if its kind is known and its body is not cut.
 #[tactic(auto, unfolding(crate::specs::Decoding::whole, crate::specs::Decoding::length_of))]
-fn step_length(part: &[u8]) -> usize
-    ensures { result ≡ whole part.now }
+fn step_length(part: &[u8]) -> Option<usize>
+    ensures { MatchOption result (whole part.now ≡ 0) (λ n. (n ≡ whole part.now) × (0 < n) × (n ≤ length part.now)) }
 {
-    if part.len() == 0 {
-        return 0;
-    }
-    let n = length_of(part[0]);
-    if part.len() < n {
-        return 0;
-    }
-    n
+    let n = length_of(*part.first()?)?;
+    (n <= part.len()).then_some(n)
 }
 
+#[tactic(auto, using(crate::proofs::Bodies::room, crate::proofs::Bodies::last_kind), unfolding(crate::specs::Decoding::length_of, crate::specs::Decoding::step_of))]
 fn step_of(part: &[u8]) -> Step
     requires { 0 < whole part.now }
     ensures { result ≡ step_of (kind_of part.now) part.now }
 {
-    let kind = part[0];
-    match kind {
+    match part[0] {
         0 => Step::Open(two(part, 1)),
         1 => Step::Begin,
         2 => Step::Read(TxnNo(two(part, 1)), ItemNo(two(part, 3))),
@@ -86,43 +64,34 @@ fn step_of(part: &[u8]) -> Step
     }
 }
 
-// The step at the front of a part that starts at its kind byte. An empty part, which no run asks about, is bad.
-pub fn decode(part: &[u8]) -> Decoded
+// The step at the front of a part that starts at its kind byte, and its length; none where it is bad. An empty part, which no run asks about, has none.
+#[tactic(auto, using(crate::proofs::Bodies::decoded_good, crate::proofs::Bodies::decoded_bad))]
+pub fn decode(part: &[u8]) -> Option<(Step, usize)>
     ensures { result ≡ decoded part.now }
 {
-    let n = step_length(part);
-    if n == 0 {
-        return Decoded::Bad;
-    }
-    Decoded::Good(step_of(part), n)
+    let n = step_length(part)?;
+    Some((step_of(part), n))
 }
 
 // How many answers a file gives, a 10 included, found without running it.
 pub fn count(file: &[u8]) -> usize
     ensures { result ≡ answers_of (steps_of file.now) }
 {
-    let mut at = 0;
+    let mut rest = file;
     let mut n = 0;
-    while at < file.len() {
-        let k = step_length(&file[at..]);
-        if k == 0 {
-            return n + 1;
-        }
-        at += k;
+    while let Some(k) = step_length(rest) {
+        rest = &rest[k..];
         n += 1;
     }
-    n
+    if rest.is_empty() { n } else { n + 1 }
 }
 
 // Writes an answer's five bytes at a place.
+#[tactic(auto, using(crate::proofs::Puts::number_and_value))]
 pub fn put_answer(out: &mut [u8], at: usize, g: Given)
     requires { (at + 5 ≤ length out.old) × (g.number < 256) }
     ensures { out.new ≡ answer_at at g out.old }
 {
     out[at] = g.number as u8;
-    let v = g.value;
-    out[at + 1] = (v % 256) as u8;
-    out[at + 2] = (v / 256 % 256) as u8;
-    out[at + 3] = (v / 65536 % 256) as u8;
-    out[at + 4] = (v / 16777216 % 256) as u8;
+    out[at + 1..at + 5].copy_from_slice(&g.value.to_le_bytes());
 }
