@@ -1,14 +1,11 @@
 -- The fewest digits of a number are its decimal text. Assumes nothing.
 use Prim.Native.Nat.{ℕ, zero, suc, ◌+◌, ◌-◌, ◌/◌, ◌%◌, ◌^◌, ◌<◌, ◌≤◌}
-use native.Mathlib.Nat.{pow-le-pow_right, pow-succ'}
+use native.Mathlib.Nat.{pow-succ'}
 use native.Mathlib.Omega.{arith}
-use mathlib.Core.Bool.{Bool, cond, false, true}
+use mathlib.Core.Bool.{Bool, cond}
 use mathlib.Core.List.{[], ◌∷◌, ◌++◌}
-use mathlib.Core.Logic.{◌⊎◌, inl, inr}
 use mathlib.Core.Path.{◌≡◌, ◌∙◌, ap, subst, sym}
-use lib.Dec.{leb}
-use borrow.Author.Tests.{le-ltb, leb-false, leb-true, lt-ltb}
-use Rattle.laws.proofs.Lists.{passed}
+use borrow.Author.Tests.{le-ltb, lt-ltb}
 use Rattle.io.specs.Digits.{IsDigitCount, last_digits, hex_digit_ascii}
 use Rattle.parlour.specs.Text.{decimal_in}
 
@@ -39,14 +36,3 @@ fewest_decimal (suc f) (suc (suc k)) n l h =
     (omega arith, omega (arith, h.1, two), λ u. subst (λ (e : ℕ). 10 ^ e ≤ n / 10) (sym again) (omega (arith, low, one))) in
     (λ j. rest j ++ glyph_digit (n % 10) (omega arith) j ∷ [])
     ∙ sym (ap (λ (b : Bool). cond b ((48 + n) ∷ []) (decimal_in f (n / 10) ++ (48 + n % 10) ∷ [])) (le-ltb n 10 many))
-
--- a number below 2 ^ 64 has at most 20
-pub fewest_few : (k n : ℕ) → n < 18446744073709551616 → IsDigitCount 10 1 n k → k ≤ 20
-fewest_few k n l h = go (passed (leb k 20))
-  where
-    go : (leb k 20 ≡ true) ⊎ (leb k 20 ≡ false) → k ≤ 20
-    go (inl t) = leb-true k 20 t
-    go (inr f) =
-        let many = leb-false k 20 f in
-        let more : 10 ^ 20 ≤ 10 ^ (k - 1) = pow-le-pow_right (omega arith) {i = 20} {j = k - 1} (omega arith) in
-        absurd (omega (arith, l, h.2 (omega arith), more))

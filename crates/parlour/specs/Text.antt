@@ -22,6 +22,10 @@ unfoldable pub lines_in : ℕ → List ℕ → List ℕ
 lines_in zero bytes = []
 lines_in (suc n) bytes = line (get_or bytes 0 0) (field 1 4 bytes) ++ lines_in n (drop 5 bytes)
 
+-- the lines of the answers that fill some bytes
+abbrev pub lines_of : List ℕ → List ℕ
+lines_of bytes = lines_in (length bytes / 5) bytes
+
 -- the lines of some answers
 unfoldable pub text_of : List Given → List ℕ
 text_of [] = []

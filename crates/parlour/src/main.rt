@@ -1,58 +1,50 @@
 // Runs the step file on standard input and prints its answers, one a line.
 #![tactic(auto)]
 
-ghost use Rattle.std.specs.Prelude.{◌++◌, ◌≡◌, ◌+◌, ◌*◌, ◌≤◌, length, take};
+ghost use Rattle.std.specs.Prelude.{◌≡◌, ◌≤◌, length, take};
 ghost use Rattle.std.specs.Io.KnownBytes.{Consumes};
 ghost use Rattle.io.specs.Counts.{IsPrefixLen};
-ghost use Rattle.parlour.specs.Text.{decimal, line, lines_in, shown};
+ghost use Rattle.parlour.specs.Text.{decimal, line, lines_of, shown};
 
 use runner::run;
 use std::io::Read;
 use steps::four;
 
-fn wide(b: u8) -> u64
-    ensures { result ≡ b }
+// Puts a number's digits at the start of a text, and answers how many they are.
+#[tactic(auto, using(crate::proofs::Texts::number_put))]
+fn put_number(text: &mut [u8], n: u32) -> usize
+    requires { 20 ≤ length text.old }
+    ensures at_most { result ≤ 20 }
+    ensures text_after { take result text.new ≡ decimal n }
 {
-    b as u64
-}
-
-// Puts a number's digits behind the text so far, and answers where they end.
-fn put_number(text: &mut [u8], at: usize, n: u64) -> usize
-    requires { at + 20 ≤ length text.old }
-    ensures { (result ≤ at + 20) × (take result text.new ≡ take at text.old ++ decimal n) }
-{
+    // A buffer of its own: what is written through a part of the text as an array is not told to the proof.
     let mut digits = [0u8; 20];
-    let k = io::decimal(n, &mut digits);
-    let mut i = 0;
-    while i < k {
-        text[at + i] = digits[i];
-        i += 1;
-    }
-    at + k
+    let k = io::decimal(u64::from(n), &mut digits);
+    text[..k].copy_from_slice(&digits[..k]);
+    k
 }
 
-fn put_line(text: &mut [u8], at: usize, number: u64, value: u64) -> usize
-    requires { at + 42 ≤ length text.old }
-    ensures { (result ≤ at + 42) × (take result text.new ≡ take at text.old ++ line number value) }
+fn put_line(text: &mut [u8], number: u32, value: u32) -> usize
+    requires { 42 ≤ length text.old }
+    ensures at_most { result ≤ 42 }
+    ensures text_after { take result text.new ≡ line number value }
 {
-    let a = put_number(text, at, number);
+    let a = put_number(text, number);
     text[a] = b' ';
-    let b = put_number(text, a + 1, value);
+    let b = a + 1 + put_number(&mut text[a + 1..], value);
     text[b] = b'\n';
     b + 1
 }
 
-// The lines of the first n answers.
-fn put_lines(text: &mut [u8], answers: &[u8], n: usize) -> usize
-    requires { (n ≤ 8192) × (5 * n ≤ length answers.now) × (344064 ≤ length text.old) }
-    ensures { (result ≤ 344064) × (take result text.new ≡ lines_in n answers.now) }
+#[tactic(auto, using(crate::proofs::Texts::list_next, crate::proofs::Texts::list_done))]
+fn put_lines(text: &mut [u8], answers: &[u8]) -> usize
+    requires { (length answers.now ≤ 40960) × (344064 ≤ length text.old) }
+    ensures at_most { result ≤ 344064 }
+    ensures text_after { take result text.new ≡ lines_of answers.now }
 {
     let mut at = 0;
-    let mut i = 0;
-    while i < n {
-        let p = 5 * i;
-        at = put_line(text, at, wide(answers[p]), four(answers, p + 1) as u64);
-        i += 1;
+    for answer in answers.chunks_exact(5) {
+        at += put_line(&mut text[at..], u32::from(answer[0]), four(answer, 1));
     }
     at
 }
@@ -64,11 +56,10 @@ fn report(file: &[u8], text: &mut [u8]) -> usize
     ensures text_after { take result text.new ≡ shown file.now }
 {
     let mut answers = [0u8; 40960];
-    let r = run(file, &mut answers);
-    if r / 65536 == 11 {
-        return put_line(text, 0, 11, 0);
-    }
-    put_lines(text, &answers, (r % 65536) as usize)
+    let Ok(outcome) = run(file, &mut answers) else {
+        return put_line(text, 11, 0);
+    };
+    put_lines(text, &answers[..5 * outcome.answers()])
 }
 
 // Fills the buffer from the input, as far as that goes, and answers how many bytes it is: those that the input gave, in their order. A failed read counts
@@ -79,13 +70,10 @@ fn read_full<R: Read>(input: &mut R, buf: &mut [u8]) -> usize
 {
     let mut done = 0;
     while done < buf.len() {
-        let Ok(n) = input.read(&mut buf[done..]) else {
-            return done;
-        };
-        if n == 0 {
-            return done;
+        match input.read(&mut buf[done..]) {
+            Ok(n) if n > 0 => done += n,
+            _ => break,
         }
-        done += n;
     }
     done
 }

@@ -7,9 +7,10 @@ use mathlib.Core.Logic.{◌⊎◌, inl, inr}
 use mathlib.Core.Path.{◌≡◌, ◌∙◌, ap, refl, subst, sym}
 use native.Mathlib.Omega.{arith}
 use lib.ListN.{get_or, length, replicate}
+use Rattle.std.specs.Prelude.{Err, Ok}
+use Rattle.terms.specs.Words.{Answer}
+use Rattle.terms.specs.declared.Refusal.TheVariants.{BadOpening, UnsoundTables}
 use Rattle.terms.specs.declared.Row.{Row}
-use Rattle.terms.specs.declared.Answer.{Answer}
-use Rattle.terms.specs.declared.Answer.TheVariants.{Accepted, BadOpening, UnsoundTables}
 use Rattle.rules.specs.Lists.{all}
 use Rattle.rules.specs.Machine.{Abort, Begin, Call, Commit, Latest, Line, Open, Read, Write, history, lines, openable, step}
 use Rattle.rules.specs.Public.{call_on, fitting, in_range, lines_on, open_on, raws_on}
@@ -78,7 +79,7 @@ unfolding fitting raw_of closed
 start_fits = refl
 
 -- an opening with 1 to 256 values is accepted, and leaves sound tables
-open_accepted : (c : ℕ) (vs : List ℕ) → openable c vs ≡ true → call_on 32 256 (Open c vs) start ≡ (Accepted 0, raw_of 32 256 (opened vs))
+open_accepted : (c : ℕ) (vs : List ℕ) → openable c vs ≡ true → call_on 32 256 (Open c vs) start ≡ (Ok 0, raw_of 32 256 (opened vs))
 unfolding call_on open_on
 open_accepted c vs h = rw (h, start_fits, open_on) refl
 
@@ -97,7 +98,7 @@ data First (x : Call) : Type 0 where
 
 refusal : (x : Call) → Serial.opens x ≡ false → First x
 unfolding history closed
-refusal x o = stays UnsoundTables (unsound-raw 32 256 start x o (closed-unsound start refl)) (unsound_first (history 32 256) closed x o refl)
+refusal x o = stays (Err UnsoundTables) (unsound-raw 32 256 start x o (closed-unsound start refl)) (unsound_first (history 32 256) closed x o refl)
 
 first_call : (x : Call) → First x
 unfolding Serial.opens call_on
@@ -105,7 +106,7 @@ first_call (Open c vs) = go (passed (openable c vs))
   where
     go : (openable c vs ≡ true) ⊎ (openable c vs ≡ false) → First (Open c vs)
     go (inl t) = opens c vs refl t
-    go (inr f) = stays BadOpening (open_count 32 256 c vs start f) (opens_by (history 32 256) closed c vs false f)
+    go (inr f) = stays (Err BadOpening) (open_count 32 256 c vs start f) (opens_by (history 32 256) closed c vs false f)
 first_call Begin = refusal Begin refl
 first_call (Read t i) = refusal (Read t i) refl
 first_call (Write t i v) = refusal (Write t i v) refl
@@ -147,5 +148,5 @@ closed-lines (x ∷ xs) r = go (first_call x) (closed-lines xs (and_right (in_ra
         let f = (lent-opened 32 256 start c vs (ap (λ (u : Answer × Raw). u.0) o) xs (and_right (in_range x) _ r)).0 in
         let after = sym (ap (λ (u : Answer × Raw). lines_on 32 256 u.1 xs) o) ∙ f in
         ap (λ (y : Call). lines_on 32 256 start (y ∷ xs)) p
-        ∙ one_more (Open c vs) xs (Accepted 0) (raw_of 32 256 (opened vs)) (opened vs) o (opens_by (history 32 256) closed c vs true q) after
+        ∙ one_more (Open c vs) xs (Ok 0) (raw_of 32 256 (opened vs)) (opened vs) o (opens_by (history 32 256) closed c vs true q) after
         ∙ ap (λ (y : Call). lines (history 32 256) closed (y ∷ xs)) (sym p)

@@ -6,10 +6,11 @@ use mathlib.Core.Logic.{◌⊎◌, inl, inr}
 use mathlib.Core.Path.{◌≡◌, ◌∙◌, ap, refl, sym}
 use native.Mathlib.Omega.{arith}
 use lib.ListN.{length, length-replicate, replicate, take}
+use Rattle.std.specs.Prelude.{Err}
+use Rattle.terms.specs.Words.{Answer}
+use Rattle.terms.specs.declared.Refusal.TheVariants.{BadOpening}
 use Rattle.terms.specs.declared.Step.{Step}
 use Rattle.terms.specs.declared.Step.TheVariants.{Abort, Begin, Commit, Latest, Open, Read, Write}
-use Rattle.terms.specs.declared.Answer.{Answer}
-use Rattle.terms.specs.declared.Answer.TheVariants.{BadOpening}
 use Rattle.rules.specs.Machine.{call_of, openable}
 use Rattle.rules.specs.Public.{call_on, open_on}
 use Rattle.rules.specs.Raw.{Raw}
@@ -28,11 +29,11 @@ zeros_long c l = sym (ap length (take_zeros c 256 l) ∙ length-replicate c 0)
 
 module _ (n m c : ℕ) (w : Raw) where
   -- "count outside 1 to 256"
-  pub open_many : 256 < c → call_on n m (call_of (Open c)) w ≡ (BadOpening, w)
+  pub open_many : 256 < c → call_on n m (call_of (Open c)) w ≡ (Err BadOpening, w)
   unfolding call_on call_of
   open_many l = go (passed (openable c (replicate c 0)))
     where
-      go : (openable c (replicate c 0) ≡ true) ⊎ (openable c (replicate c 0) ≡ false) → open_on n m c (replicate c 0) w ≡ (BadOpening, w)
+      go : (openable c (replicate c 0) ≡ true) ⊎ (openable c (replicate c 0) ≡ false) → open_on n m c (replicate c 0) w ≡ (Err BadOpening, w)
       go (inl t) = let v = counted c (replicate c 0) t in absurd (omega (arith, v.0, v.1))
       go (inr f) = open_count n m c (replicate c 0) w f
 

@@ -6,11 +6,11 @@ use mathlib.Core.Logic.{inl}
 use mathlib.Core.Path.{◌≡◌, ◌∙◌, ap, refl, subst, sym}
 use native.Mathlib.Omega.{arith}
 use lib.ListN.{drop, length, length-append}
-use Rattle.terms.specs.declared.Answer.{Answer}
-use Rattle.terms.specs.declared.Answer.TheVariants.{Accepted, BadOpening, Beaten, ClosesRing, NotActive, NumbersUsedUp, RecordsFull, RowsFull, UnknownItem, UnsoundTables}
+use Rattle.std.specs.Prelude.{Err, None, Ok, Some}
+use Rattle.terms.specs.declared.Refusal.TheVariants.{BadOpening, Beaten, ClosesRing, NotActive, NumbersUsedUp, RecordsFull, RowsFull, UnknownItem, UnsoundTables}
 use Rattle.terms.specs.declared.Given.{Given}
 use Rattle.terms.specs.declared.Step.{Step}
-use Rattle.terms.specs.Words.{given, paper}
+use Rattle.terms.specs.Words.{Answer, given, paper}
 use Rattle.rules.specs.Lists.{all}
 use Rattle.rules.specs.Machine.{Call, Line, call_of, run}
 use Rattle.rules.specs.Public.{call_on, in_range, lines_on}
@@ -18,7 +18,6 @@ use Rattle.rules.specs.Raw.{Raw, raw_of}
 use Rattle.rules.specs.State.{closed}
 use borrow.Author.Tests.{lt-ltb}
 use Rattle.laws.proofs.Lists.{and_both, and_left, and_right}
-use Rattle.steps.specs.declared.Decoded.TheVariants.{Bad, Good}
 use Rattle.steps.specs.Answers.{answer_at, with_answers}
 use Rattle.steps.specs.Decoding.{BadAt, Contents, Done, End, contents_from, decoded, steps_of}
 use Rattle.steps.proofs.Puts.{length_with, put_next, put-start}
@@ -35,16 +34,16 @@ pub number_small : {x : Given} (a : Answer) → x ≡ paper a → x.number < 256
 number_small a e = omega (arith, ap (λ (y : Given). y.number) e, small a)
   where
     small : (a : Answer) → (paper a).number < 256
-    small (Accepted v) = omega arith
-    small UnsoundTables = omega arith
-    small UnknownItem = omega arith
-    small NotActive = omega arith
-    small NumbersUsedUp = omega arith
-    small RowsFull = omega arith
-    small RecordsFull = omega arith
-    small Beaten = omega arith
-    small ClosesRing = omega arith
-    small BadOpening = omega arith
+    small (Ok v) = omega arith
+    small (Err UnsoundTables) = omega arith
+    small (Err UnknownItem) = omega arith
+    small (Err NotActive) = omega arith
+    small (Err NumbersUsedUp) = omega arith
+    small (Err RowsFull) = omega arith
+    small (Err RecordsFull) = omega arith
+    small (Err Beaten) = omega arith
+    small (Err ClosesRing) = omega arith
+    small (Err BadOpening) = omega arith
 
 -- the answers that the public calls give to what is left, on the present tables
 abbrev pub given_on : Raw → Contents → List Given
@@ -106,7 +105,7 @@ module _ {file out₀ out : List ℕ} {w : Raw} {at n : ℕ} (g : Going file out
   put_one : (x : Given) {out' : List ℕ} → out' ≡ answer_at (5 * n) x out → out' ≡ with_answers (g.sofar ++ x ∷ []) out₀
   put_one x p = p ∙ (λ j. answer_at (5 * g.many j) x (g.put j)) ∙ put_next g.sofar x out₀
 
-  module _ {s : Step} {k : ℕ} (e : decoded (part_at file at) ≡ Good s k) where
+  module _ {s : Step} {k : ℕ} (e : decoded (part_at file at) ≡ Some (s, k)) where
     pub go_inside : (0 < k) × (at + k ≤ length file)
     go_inside = next-inside file at e g.at_most
 
@@ -161,15 +160,15 @@ module _ {file out₀ out : List ℕ} {w : Raw} {at n : ℕ} (g : Going file out
       end_as Done g.sofar (ap (λ (h : Contents). h.end) e) a g.put g.small n (omega (arith, g.many))
 
   -- a bad step ends the run after its own answer
-  module _ (l : at < length file) (e : decoded (part_at file at) ≡ Bad) where
+  module _ (l : at < length file) (e : decoded (part_at file at) ≡ None) where
     pub bad_room : 5 * length (answers_to 32 256 (steps_of file)) ≤ length out₀ → 5 * n + 5 ≤ length out
     unfolding lines_on
     bad_room r = omega (arith, go_room r, ap (λ (h : Contents). length (given_on w h)) (next-bad file at l e))
 
-    pub go_bad : at < 4294967296 → (out' : List ℕ) → out' ≡ answer_at (5 * n) (given 10 at) out → Ended (655360 + n + 1) out'
+    pub go_bad : at < 4294967296 → (out' : List ℕ) → out' ≡ answer_at (5 * n) (given 10 at) out → Ended (655360 + (n + 1)) out'
     unfolding lines_on
     go_bad s out' p =
         let b = next-bad file at l e in
         let a = ap (λ (h : Contents). g.sofar ++ given_on w h) (sym b) ∙ g.same in
-        let k : 655360 + n + 1 ≡ 655360 + length (g.sofar ++ given 10 at ∷ []) = omega (arith, g.many, length-append g.sofar (given 10 at ∷ [])) in
-        end_as (BadAt at) (g.sofar ++ given 10 at ∷ []) (ap (λ (h : Contents). h.end) b) a (put_one (given 10 at) p) (all_more g.sofar (given 10 at) g.small s) (655360 + n + 1) k
+        let k : 655360 + (n + 1) ≡ 655360 + length (g.sofar ++ given 10 at ∷ []) = omega (arith, g.many, length-append g.sofar (given 10 at ∷ [])) in
+        end_as (BadAt at) (g.sofar ++ given 10 at ∷ []) (ap (λ (h : Contents). h.end) b) a (put_one (given 10 at) p) (all_more g.sofar (given 10 at) g.small s) (655360 + (n + 1)) k

@@ -1,5 +1,9 @@
 -- What a run of a step file writes and returns, in terms of the history machine. Assumes nothing.
-use Rattle.std.specs.Prelude.{ℕ, ◌+◌, ◌*◌, Bool, cond, List, [], ◌∷◌, ◌++◌, map, ltb, length}
+use Rattle.std.specs.Prelude.{ℕ, ◌+◌, ◌*◌, Bool, cond, List, [], ◌∷◌, ◌++◌, map, ltb, length, Result, Ok, Err}
+use Rattle.runner.specs.declared.Outcome.{Outcome}
+use Rattle.runner.specs.declared.Outcome.TheVariants.{Complete, BadStep}
+use Rattle.runner.specs.declared.RunError.{RunError}
+use Rattle.runner.specs.declared.RunError.TheVariants.{TooLong, NoRoom}
 use Rattle.terms.specs.declared.Given.{Given}
 use Rattle.terms.specs.Words.{given}
 use Rattle.rules.specs.State.{closed}
@@ -20,6 +24,18 @@ narrow g = ltb g.value 4294967296
 abbrev pub number_of : End → ℕ
 number_of Done = 0
 number_of (BadAt at) = 10
+
+-- how many answers a run wrote
+abbrev pub answers_in : Outcome → ℕ
+answers_in (Complete n) = n
+answers_in (BadStep n) = n
+
+-- "returns 65,536 times its number plus the answers written": the number that C gets for how a run ended
+abbrev pub code : Result Outcome RunError → ℕ
+code (Ok (Complete n)) = n
+code (Ok (BadStep n)) = 65536 * 10 + n
+code (Err TooLong) = 65536 * 11
+code (Err NoRoom) = 65536 * 12
 
 module _ (n m : ℕ) where
   -- the answers that a file gives on a board of n rows and m records: the history machine's to its steps, from "the closed state, in which a run of a step

@@ -1,169 +1,192 @@
 // A whole step file run into an answer buffer, on tables of its own.
 #![tactic(auto)]
 
-ghost use Rattle.std.specs.Prelude.{◌≡◌, true, ◌*◌, ◌≤◌, ◌<◌, length};
+ghost use Rattle.std.specs.Prelude.{◌≡◌, true, ◌*◌, ◌≤◌, ◌<◌, length, IsOk, Ok};
 ghost use Rattle.rules.specs.Lists.{all};
 ghost use Rattle.rules.specs.Machine.{call_of};
 ghost use Rattle.rules.specs.Public.{call_on};
-ghost use Rattle.calls.specs.Lent.{raw, Sound};
+ghost use Rattle.calls.specs.Lent.{Sound, raw_on};
 ghost use Rattle.steps.specs.Decoding.{steps_of};
 ghost use Rattle.runner.specs.Ready.{Closed, Ready};
-ghost use Rattle.runner.specs.Run.{answers_to, narrow, run_on, written};
+ghost use Rattle.runner.specs.Run.{answers_in, answers_to, code, narrow, run_on, written};
 
-use calls::{Ran, abort, begin, commit, latest, open, read, write};
-use graph::ROWS;
+use calls::board::Board;
+use calls::{abort, begin, commit, latest, open, read, write};
 use reader::step_at;
-use steps::{Decoded, count, put_answer};
-use tables::rows::no_rows;
-use terms::{Answer, Given, Row, Step};
+use std::error::Error;
+use std::fmt;
+use steps::{count, put_answer};
+use terms::{Answer, Given, Refusal, Step};
+
+// How a run ended, with the number of answers that it wrote: after the last step, or with the answer 10 to a bad one.
+#[derive(Clone, Copy, Debug, PartialEq, Eq)]
+pub enum Outcome {
+    Complete(u16),
+    BadStep(u16),
+}
+
+impl Outcome {
+    // How many answers the run wrote.
+    pub fn answers(self) -> usize
+        ensures count { result ≡ answers_in self }
+        ensures few { result < 65536 }
+    {
+        match self {
+            Outcome::Complete(n) | Outcome::BadStep(n) => usize::from(n),
+        }
+    }
+}
+
+// Why a run wrote nothing.
+#[derive(Clone, Copy, Debug, PartialEq, Eq)]
+pub enum RunError {
+    TooLong,
+    NoRoom,
+}
+
+impl fmt::Display for RunError {
+    fn fmt<W: fmt::Write>(&self, f: &mut fmt::Formatter<W>) -> fmt::Result {
+        f.write_str(match self {
+            RunError::TooLong => "the step file is above 8,192 bytes",
+            RunError::NoRoom => "the answer buffer is shorter than 5 bytes for each answer",
+        })
+    }
+}
+
+impl Error for RunError {}
 
 // Opens a number of items, all of which start at 0.
-fn open_zeros(
-    items: u32,
-    head: &mut [u32],
-    values: &mut [u32],
-    writers: &mut [u32],
-    rows: [Row; ROWS],
-    recs: &mut [u64],
-) -> Ran
-    ensures { (result.answer, raw head.new values.new writers.new result.rows recs.new)
-        ≡ call_on 32 256 (call_of (Step.Open items)) (raw head.old values.old writers.old rows recs.old) }
+fn open_zeros(board: &mut Board, items: u32) -> Answer
+    ensures { (result, raw_on board.new) ≡ call_on 32 256 (call_of (Step.Open items)) (raw_on board.old) }
 {
     if 256 < items {
-        return Ran {
-            answer: Answer::BadOpening,
-            rows,
-        };
+        return Err(Refusal::BadOpening);
     }
-    let zeros = [0u32; 256];
-    let n = items as usize;
-    open(items, &zeros[..n], head, values, writers, rows, recs)
+    let zeros = [0; 256];
+    open(
+        items,
+        &zeros[..items as usize],
+        &mut board.head,
+        &mut board.values,
+        &mut board.writers,
+        &mut board.rows,
+        &mut board.recs,
+    )
 }
 
 // A step on sound tables.
-fn call(
-    head: &mut [u32],
-    values: &mut [u32],
-    writers: &mut [u32],
-    rows: [Row; ROWS],
-    recs: &mut [u64],
-    step: Step,
-) -> Ran
-    requires { Sound (raw head.old values.old writers.old rows recs.old) }
-    ensures { (result.answer, raw head.new values.new writers.new result.rows recs.new)
-        ≡ call_on 32 256 (call_of step) (raw head.old values.old writers.old rows recs.old) }
+fn call(board: &mut Board, step: Step) -> Answer
+    requires { Sound (raw_on board.old) }
+    ensures { (result, raw_on board.new) ≡ call_on 32 256 (call_of step) (raw_on board.old) }
 {
+    let b = board;
     match step {
-        Step::Open(items) => open_zeros(items, head, values, writers, rows, recs),
-        Step::Begin => begin(head, values, writers, rows, recs),
-        Step::Read(t, i) => {
-            let answer = read(head, values, writers, rows, recs, t, i);
-            Ran { answer, rows }
-        }
-        Step::Write(t, i, v) => {
-            let answer = write(head, values, writers, rows, recs, t, i, v);
-            Ran { answer, rows }
-        }
-        Step::Commit(t) => commit(head, values, writers, rows, recs, t),
-        Step::Abort(t) => abort(head, values, writers, rows, recs, t),
-        Step::Latest(i) => {
-            let answer = latest(head, values, writers, rows, recs, i);
-            Ran { answer, rows }
-        }
+        Step::Open(items) => open_zeros(b, items),
+        Step::Begin => begin(&mut b.head, &b.values, &b.writers, &mut b.rows, &b.recs),
+        Step::Read(t, i) => read(&b.head, &b.values, &b.writers, &b.rows, &mut b.recs, t, i),
+        Step::Write(t, i, v) => write(
+            &b.head,
+            &b.values,
+            &b.writers,
+            &b.rows,
+            &mut b.recs,
+            t,
+            i,
+            v,
+        ),
+        Step::Commit(t) => commit(
+            &mut b.head,
+            &mut b.values,
+            &mut b.writers,
+            &mut b.rows,
+            &mut b.recs,
+            t,
+        ),
+        Step::Abort(t) => abort(
+            &b.head,
+            &mut b.values,
+            &mut b.writers,
+            &mut b.rows,
+            &mut b.recs,
+            t,
+        ),
+        Step::Latest(i) => latest(&b.head, &b.values, &b.writers, &b.rows, &b.recs, i),
     }
 }
 
 // A step on closed tables: an opening opens them, and for every other they are unsound.
-fn first(
-    head: &mut [u32],
-    values: &mut [u32],
-    writers: &mut [u32],
-    rows: [Row; ROWS],
-    recs: &mut [u64],
-    step: Step,
-) -> Ran
-    requires { Closed (raw head.old values.old writers.old rows recs.old) }
-    ensures { (result.answer, raw head.new values.new writers.new result.rows recs.new)
-        ≡ call_on 32 256 (call_of step) (raw head.old values.old writers.old rows recs.old) }
+fn first(board: &mut Board, step: Step) -> Answer
+    requires { Closed (raw_on board.old) }
+    ensures { (result, raw_on board.new) ≡ call_on 32 256 (call_of step) (raw_on board.old) }
 {
     let Step::Open(items) = step else {
-        return Ran {
-            answer: Answer::UnsoundTables,
-            rows,
-        };
+        return Err(Refusal::UnsoundTables);
     };
-    open_zeros(items, head, values, writers, rows, recs)
+    open_zeros(board, items)
 }
 
 // A step on the tables of a run. There is no test for soundness: a count of 0 says that the tables are the closed ones.
-fn advance(
-    head: &mut [u32],
-    values: &mut [u32],
-    writers: &mut [u32],
-    rows: [Row; ROWS],
-    recs: &mut [u64],
-    step: Step,
-) -> Ran
-    requires { Ready (raw head.old values.old writers.old rows recs.old) }
-    ensures { (result.answer, raw head.new values.new writers.new result.rows recs.new)
-        ≡ call_on 32 256 (call_of step) (raw head.old values.old writers.old rows recs.old) }
+fn advance(board: &mut Board, step: Step) -> Answer
+    requires { Ready (raw_on board.old) }
+    ensures { (result, raw_on board.new) ≡ call_on 32 256 (call_of step) (raw_on board.old) }
 {
-    if head[0] == 0 {
-        return first(head, values, writers, rows, recs, step);
+    if board.head[0] == 0 {
+        return first(board, step);
     }
-    call(head, values, writers, rows, recs, step)
+    call(board, step)
 }
 
 // Runs a file whose answers have room.
-fn play(file: &[u8], out: &mut [u8]) -> u64
+fn play(file: &[u8], out: &mut [u8]) -> Outcome
     requires { (length file.now ≤ 8192) × (5 * length (answers_to 32 256 (steps_of file.now)) ≤ length out.old) }
-    ensures out_after { (result, out.new) ≡ written 32 256 (steps_of file.now) out.old }
+    ensures out_after { (code (Ok result), out.new) ≡ written 32 256 (steps_of file.now) out.old }
     ensures room_in_bytes { all narrow (answers_to 32 256 (steps_of file.now)) ≡ true }
 {
-    let mut head = [0u32; 3];
-    let mut values = [0u32; 256];
-    let mut writers = [0u32; 256];
-    let mut rows = no_rows();
-    let mut recs = [0u64; 256];
+    let mut board = Board::closed();
     let mut at = 0;
     let mut n = 0;
     while at < file.len() {
         let found = step_at(file, at);
-        let d = found.decoded;
-        let Decoded::Good(step, _) = d else {
-            put_answer(
-                out,
-                5 * n,
-                Given {
-                    number: 10,
-                    value: at as u32,
-                },
-            );
-            return 655360 + (n as u64) + 1;
+        let Some((step, _)) = found.decoded else {
+            let bad = Given {
+                number: 10,
+                value: at as u32,
+            };
+            put_answer(out, 5 * n, bad);
+            return Outcome::BadStep(n as u16 + 1);
         };
-        let ran = advance(&mut head, &mut values, &mut writers, rows, &mut recs, step);
-        let answer = ran.answer;
-        put_answer(out, 5 * n, answer.given());
-        let next = ran.rows;
-        rows = next;
+        let answer = advance(&mut board, step);
+        put_answer(out, 5 * n, Given::from(answer));
         at = found.at;
         n += 1;
     }
-    n as u64
+    Outcome::Complete(n as u16)
 }
 
 // Runs a step file into an answer buffer. Where answers are written, each value has room in its bytes, so that they can be read back.
-pub fn run(file: &[u8], out: &mut [u8]) -> u64
-    ensures out_after { (result, out.new) ≡ run_on 32 256 file.now out.old }
-    ensures room_in_bytes { result < 65536 * 11 → all narrow (answers_to 32 256 (steps_of file.now)) ≡ true }
+pub fn run(file: &[u8], out: &mut [u8]) -> Result<Outcome, RunError>
+    ensures out_after { (code result, out.new) ≡ run_on 32 256 file.now out.old }
+    ensures room_in_bytes { IsOk result → all narrow (answers_to 32 256 (steps_of file.now)) ≡ true }
 {
     if 8192 < file.len() {
-        return 65536 * 11;
+        return Err(RunError::TooLong);
     }
     if out.len() / 5 < count(file) {
-        return 65536 * 12;
+        return Err(RunError::NoRoom);
     }
-    play(file, out)
+    Ok(play(file, out))
+}
+
+// A run's result as the one number that C gets: 65,536 times the run's number plus the answers written.
+fn code(ended: Result<Outcome, RunError>) -> u64
+    ensures { result ≡ code ended }
+{
+    match ended {
+        Ok(Outcome::Complete(n)) => u64::from(n),
+        Ok(Outcome::BadStep(n)) => 65536 * 10 + u64::from(n),
+        Err(RunError::TooLong) => 65536 * 11,
+        Err(RunError::NoRoom) => 65536 * 12,
+    }
 }
 
 // The same under the name that it has for C, where the crate runner_c exports it.
@@ -171,5 +194,5 @@ pub fn parlour_run(steps: &[u8], answers: &mut [u8]) -> u64
     ensures answers_after { (result, answers.new) ≡ run_on 32 256 steps.now answers.old }
     ensures room_in_bytes { result < 65536 * 11 → all narrow (answers_to 32 256 (steps_of steps.now)) ≡ true }
 {
-    run(steps, answers)
+    code(run(steps, answers))
 }

@@ -1,7 +1,10 @@
 -- `parlour::put_line` meets its contract. Assumes nothing.
-use Rattle.std.proofs.Common.{arith, length-set, take}
-use Rattle.parlour.proofs.Texts.{line-put, put_byte}
+use Rattle.std.proofs.Common.{arith, ℕ, length-drop, length-set, length-take}
+use Rattle.parlour.proofs.Texts.{line_put}
 use Rattle.parlour.proofs.put_line.Goals as goal
 
-pub returns : goal.returns
-returns c = (omega arith, line-put (take c.args.at c.args.text.now) c.args.number c.args.value c.put_number-a.ensures.1 (put_byte c.put_number-a.new.text c.put_number-a.result 32 (omega arith)) c.put_number-b.ensures.1 (put_byte c.put_number-b.new.text c.put_number-b.result 10 (omega (arith, length-set c.put_number-a.new.text c.put_number-a.result 32))))
+pub returns-clause-text_after : goal.returns-clause-text_after
+returns-clause-text_after c =
+    let a = c.put_number-a in
+    let b = c.put_number in
+    line_put a.new.text b.new.text a.result b.result _ c.args.number c.args.value (omega arith) (omega (arith, length-take {A = ℕ}, length-drop {A = ℕ}, length-set {A = ℕ})) a.ensures.text_after b.ensures.text_after

@@ -3,11 +3,11 @@ use Rattle.std.proofs.Common.{arith}
 use Rattle.runner.proofs.Closed.{ready_closed, ready_long, ready_sound}
 use Rattle.runner.proofs.advance.Goals as goal
 
-pub bounds-head-0 : goal.bounds-head-0
-bounds-head-0 c = omega (arith, (ready_long _ c.requires).head)
+pub bounds-board-0 : goal.bounds-board-0
+bounds-board-0 c = omega (arith, (ready_long _ c.requires).head)
 
 pub first-requires : goal.first-requires
-first-requires c = ready_closed _ c.requires c.if-head-eq0.true
+first-requires c = ready_closed _ c.requires c.if-board-eq0.true
 
 pub call-requires : goal.call-requires
-call-requires c = ready_sound _ c.requires c.if-head-eq0.false
+call-requires c = ready_sound _ c.requires c.if-board-eq0.false

@@ -1,29 +1,20 @@
 -- `runner::call` meets its contract: each step is its call. Assumes nothing.
+use Rattle.std.proofs.Common.{◌∙◌}
 use Rattle.rules.specs.Machine.{call_of}
 use Rattle.rules.specs.Public.{call_on}
+use Rattle.calls.specs.Lent.{raw_on}
 use Rattle.runner.proofs.Openings.{of_step}
+use Rattle.runner.proofs.call.Goals.{in-Open, in-Begin, in-Read, in-Write, in-Commit, in-Abort, in-Latest}
 use Rattle.runner.proofs.call.Goals as goal
 
-pub returns-in-Begin : goal.returns-in-Begin
+pub returns : goal.returns
 unfolding call_on call_of
-returns-in-Begin c = of_step _ c.in-Begin.is c.begin.ensures
-
-pub returns-in-Read : goal.returns-in-Read
-unfolding call_on call_of
-returns-in-Read c = of_step _ c.in-Read.is c.read-answer.ensures
-
-pub returns-in-Write : goal.returns-in-Write
-unfolding call_on call_of
-returns-in-Write c = of_step _ c.in-Write.is c.write-answer.ensures
-
-pub returns-in-Commit : goal.returns-in-Commit
-unfolding call_on call_of
-returns-in-Commit c = of_step _ c.in-Commit.is c.commit.ensures
-
-pub returns-in-Abort : goal.returns-in-Abort
-unfolding call_on call_of
-returns-in-Abort c = of_step _ c.in-Abort.is c.abort.ensures
-
-pub returns-in-Latest : goal.returns-in-Latest
-unfolding call_on call_of
-returns-in-Latest c = of_step _ c.in-Latest.is c.latest-answer.ensures
+returns c = elim c.match-step.branch [
+  | in-Open w ↦ (λ j. (w.result-is j, raw_on (w.b-is j))) ∙ of_step _ w.in-Open.is w.open_zeros.ensures
+  | in-Begin w ↦ (λ j. (w.result-is j, raw_on (w.b-is j))) ∙ of_step _ w.in-Begin.is w.begin.ensures
+  | in-Read w ↦ (λ j. (w.result-is j, raw_on (w.b-is j))) ∙ of_step _ w.in-Read.is w.read.ensures
+  | in-Write w ↦ (λ j. (w.result-is j, raw_on (w.b-is j))) ∙ of_step _ w.in-Write.is w.write.ensures
+  | in-Commit w ↦ (λ j. (w.result-is j, raw_on (w.b-is j))) ∙ of_step _ w.in-Commit.is w.commit.ensures
+  | in-Abort w ↦ (λ j. (w.result-is j, raw_on (w.b-is j))) ∙ of_step _ w.in-Abort.is w.abort.ensures
+  | in-Latest w ↦ (λ j. (w.result-is j, raw_on (w.b-is j))) ∙ of_step _ w.in-Latest.is w.latest.ensures
+]

@@ -1,13 +1,12 @@
 -- `runner::play` meets its contract: so far the answers to the steps before an offset are written. What is left of the file falls. Assumes nothing.
 use Rattle.std.proofs.Common.{arith}
 use Rattle.reader.proofs.Places.{next-decoded, next_place}
-use Rattle.runner.proofs.Closed.{all-zero}
 use Rattle.runner.proofs.Ranges.{file_ranged}
 use Rattle.runner.proofs.Turns.{bad_room, go_bad, go_done, go_inside, go_next, go_start, good_room, number_small}
 use Rattle.runner.proofs.play.Goals as goal
 
 pub loop-at-init : goal.loop-at-init
-loop-at-init c = go_start _ _ _ (file_ranged _ (λ i. omega (arith, c.type_inv.file i))) (all-zero c.no_rows-rows.ensures)
+loop-at-init c = go_start _ _ _ (file_ranged _ (λ i. omega (arith, c.type_inv.file i))) c.closed-board.ensures
 
 pub put_answer-requires : goal.put_answer-requires
 put_answer-requires c = (bad_room c.loop-at.invariant c.loop-at-test.true (next-decoded _ _ c.step_at-found.ensures c.in_default.is) c.requires.1, omega arith)
@@ -19,13 +18,13 @@ pub returns-in_default-clause-room_in_bytes : goal.returns-in_default-clause-roo
 returns-in_default-clause-room_in_bytes c = (go_bad c.loop-at.invariant c.loop-at-test.true (next-decoded _ _ c.step_at-found.ensures c.in_default.is) (omega (arith, c.loop-at.invariant.at_most, c.requires.0)) _ c.put_answer.ensures).1
 
 pub put_answer-requires-in-loop-at : goal.put_answer-requires-in-loop-at
-put_answer-requires-in-loop-at c = (good_room c.loop-at.invariant (next-decoded _ _ c.step_at-found.ensures c.in-Good.is) c.requires.1, number_small c.advance-ran.result.answer c.given.ensures)
+put_answer-requires-in-loop-at c = (good_room c.loop-at.invariant (next-decoded _ _ c.step_at-found.ensures c.in-Some.is) c.requires.1, number_small c.advance-answer.result c.from.ensures)
 
 pub loop-at-smaller : goal.loop-at-smaller
-loop-at-smaller c = omega (arith, (go_inside c.loop-at.invariant (next-decoded _ _ c.step_at-found.ensures c.in-Good.is)).0, (go_inside c.loop-at.invariant (next-decoded _ _ c.step_at-found.ensures c.in-Good.is)).1, next_place _ _ c.step_at-found.ensures c.in-Good.is)
+loop-at-smaller c = omega (arith, (go_inside c.loop-at.invariant (next-decoded _ _ c.step_at-found.ensures c.in-Some.is)).0, (go_inside c.loop-at.invariant (next-decoded _ _ c.step_at-found.ensures c.in-Some.is)).1, next_place _ _ c.step_at-found.ensures c.in-Some.is)
 
 pub loop-at-preserved : goal.loop-at-preserved
-loop-at-preserved c = go_next c.loop-at.invariant (next-decoded _ _ c.step_at-found.ensures c.in-Good.is) _ _ _ c.advance-ran.ensures c.given.ensures (omega arith) c.put_answer-in-loop-at.ensures (next_place _ _ c.step_at-found.ensures c.in-Good.is)
+loop-at-preserved c = go_next c.loop-at.invariant (next-decoded _ _ c.step_at-found.ensures c.in-Some.is) _ _ _ c.advance-answer.ensures c.from.ensures (omega arith) c.put_answer-in-loop-at.ensures (next_place _ _ c.step_at-found.ensures c.in-Some.is)
 
 pub returns-clause-out_after : goal.returns-clause-out_after
 returns-clause-out_after c = (go_done c.loop-at.invariant c.loop-at-test.false).0
