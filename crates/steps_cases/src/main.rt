@@ -4,68 +4,22 @@
 ghost use Rattle.std.specs.Prelude.{◌<◌, length};
 
 use std::io;
-use steps::Decoded;
-use terms::{Given, ItemNo, Step, TxnNo};
-
-fn say(rt: &impl Print, word: &[u8]) -> io::Result<()> {
-    rt.write_all(word)
-}
-
-fn number(rt: &impl Print, n: u64) -> io::Result<()> {
-    print!(rt; " {n}")
-}
-
-fn txn(rt: &impl Print, t: TxnNo) -> io::Result<()> {
-    number(rt, t.0 as u64)
-}
-
-fn item(rt: &impl Print, i: ItemNo) -> io::Result<()> {
-    number(rt, i.0 as u64)
-}
-
-fn show_step(rt: &impl Print, s: Step) -> io::Result<()> {
-    match s {
-        Step::Open(c) => {
-            say(rt, b"open")?;
-            number(rt, c as u64)
-        }
-        Step::Begin => say(rt, b"begin"),
-        Step::Read(t, i) => {
-            say(rt, b"read")?;
-            txn(rt, t)?;
-            item(rt, i)
-        }
-        Step::Write(t, i, v) => {
-            say(rt, b"write")?;
-            txn(rt, t)?;
-            item(rt, i)?;
-            number(rt, v as u64)
-        }
-        Step::Commit(t) => {
-            say(rt, b"commit")?;
-            txn(rt, t)
-        }
-        Step::Abort(t) => {
-            say(rt, b"abort")?;
-            txn(rt, t)
-        }
-        Step::Latest(i) => {
-            say(rt, b"latest")?;
-            item(rt, i)
-        }
-    }
-}
+use terms::{Given, Step};
 
 // The step at the front of a part, and its length.
 fn show(rt: &impl Print, part: &[u8]) -> io::Result<()> {
-    let d = steps::decode(part);
-    let Decoded::Good(s, k) = d else {
-        return say(rt, b"bad\n");
+    let Some((step, k)) = steps::decode(part) else {
+        return println!(rt; "bad");
     };
-    show_step(rt, s)?;
-    say(rt, b",")?;
-    number(rt, k as u64)?;
-    say(rt, b"\n")
+    match step {
+        Step::Open(c) => println!(rt; "open {c}, {k}"),
+        Step::Begin => println!(rt; "begin, {k}"),
+        Step::Read(t, i) => println!(rt; "read {} {}, {k}", t.0, i.0),
+        Step::Write(t, i, v) => println!(rt; "write {} {} {v}, {k}", t.0, i.0),
+        Step::Commit(t) => println!(rt; "commit {}, {k}", t.0),
+        Step::Abort(t) => println!(rt; "abort {}, {k}", t.0),
+        Step::Latest(i) => println!(rt; "latest {}, {k}", i.0),
+    }
 }
 
 // A part, and the same without its last byte.
@@ -73,8 +27,7 @@ fn show_cut(rt: &impl Print, part: &[u8]) -> io::Result<()>
     requires { 0 < length part.now }
 {
     show(rt, part)?;
-    let n = part.len() - 1;
-    show(rt, &part[..n])
+    show(rt, &part[..part.len() - 1])
 }
 
 fn show_kinds(rt: &impl Print) -> io::Result<()> {
@@ -91,9 +44,7 @@ fn show_kinds(rt: &impl Print) -> io::Result<()> {
 }
 
 fn show_count(rt: &impl Print, file: &[u8]) -> io::Result<()> {
-    say(rt, b"answers")?;
-    number(rt, steps::count(file) as u64)?;
-    say(rt, b"\n")
+    println!(rt; "answers {}", steps::count(file))
 }
 
 // P1; two begins and a step that is cut, whose answer is the 10; a file that goes on behind an unknown kind; an empty one.
@@ -107,28 +58,19 @@ fn show_counts(rt: &impl Print) -> io::Result<()> {
     show_count(rt, b"")
 }
 
-fn show_bytes(rt: &impl Print, bytes: &[u8]) -> io::Result<()> {
-    say(rt, b"bytes")?;
-    let mut i = 0;
-    while i < bytes.len() {
-        number(rt, bytes[i] as u64)?;
-        i += 1;
-    }
-    say(rt, b"\n")
-}
-
 // An answer goes between bytes that stay.
 fn show_answer(rt: &impl Print) -> io::Result<()> {
     let mut out = [9u8; 7];
-    steps::put_answer(
-        &mut out,
-        1,
-        Given {
-            number: 8,
-            value: 16909060,
-        },
-    );
-    show_bytes(rt, &out)
+    let answer = Given {
+        number: 8,
+        value: 16909060,
+    };
+    steps::put_answer(&mut out, 1, answer);
+    print!(rt; "bytes")?;
+    for b in &out {
+        print!(rt; " {b}")?;
+    }
+    println!(rt; "")
 }
 
 fn main(rt: HostRuntime) -> io::Result<()> {

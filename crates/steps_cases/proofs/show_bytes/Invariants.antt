@@ -1,6 +1,0 @@
--- What is left of the bytes falls. Assumes nothing.
-use Rattle.std.proofs.Common.{length, ◌-◌}
-use Rattle.steps_cases.proofs.show_bytes.Given as goal
-
-abbrev pub decreases-loop-i : goal.decreases-loop-i
-decreases-loop-i g l = length l.bytes - l.i
