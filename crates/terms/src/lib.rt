@@ -8,7 +8,7 @@ use std::error::Error;
 use std::fmt;
 
 // A transaction's number. Number 0 is the opening itself.
-#[derive(Clone, Copy, Debug, Default, PartialEq, Eq)]
+#[derive(Clone, Copy, Debug, Default, PartialEq, Eq, PartialOrd, Ord)]
 pub struct TxnNo(pub u32);
 
 #[derive(Clone, Copy, Debug, PartialEq, Eq)]
@@ -18,7 +18,8 @@ pub struct ItemNo(pub u32);
 #[derive(Clone, Copy, Debug, Default, PartialEq, Eq, PartialOrd, Ord)]
 pub struct Moment(pub u32);
 
-// A transaction: its number, when it started, and when it committed (0 while it is active). The default is the row of a free place.
+// A transaction: its number, when it started, and when it committed (0 while it is active, and no Option: a caller lends rows of three numbers). The
+// default is the row of a free place.
 #[derive(Clone, Copy, Debug, Default, PartialEq, Eq)]
 pub struct Row {
     pub number: TxnNo,
@@ -26,7 +27,7 @@ pub struct Row {
     pub commit: Moment,
 }
 
-// The kinds of an access. They are numbers and no enum: a lent record may hold any kind, and one of another kind is unsound, not impossible.
+// The kinds of an access. They are numbers and no enum: a lent record may hold any kind, and `sound` has to answer for one of another kind.
 pub const READ: u32 = 1;
 
 pub const WRITE: u32 = 2;
@@ -160,6 +161,20 @@ impl Refusal {
             Refusal::Beaten => 7,
             Refusal::ClosesRing => 8,
             Refusal::BadOpening => 9,
+        }
+    }
+}
+
+impl fmt::Display for Step {
+    fn fmt<W: fmt::Write>(&self, f: &mut fmt::Formatter<W>) -> fmt::Result {
+        match self {
+            Step::Open(count) => write!(f, "open {count}"),
+            Step::Begin => f.write_str("begin"),
+            Step::Read(t, i) => write!(f, "read {} {}", t.0, i.0),
+            Step::Write(t, i, value) => write!(f, "write {} {} {value}", t.0, i.0),
+            Step::Commit(t) => write!(f, "commit {}", t.0),
+            Step::Abort(t) => write!(f, "abort {}", t.0),
+            Step::Latest(i) => write!(f, "latest {}", i.0),
         }
     }
 }
