@@ -18,23 +18,24 @@ pub fn pack(x: Rec) -> u64
         + u64::from(x.word)
 }
 
+// A field is narrowed by `as`, where it is proved to lose nothing.
 pub fn txn_of(p: u64) -> TxnNo
     ensures { result.0 ≡ txn (unpack p) }
 {
-    TxnNo((p / 281474976710656) as u32)
+    TxnNo((p >> 48) as u32)
 }
 
 pub fn item_of(p: u64) -> ItemNo
     ensures item { result.0 ≡ item (unpack p) }
     ensures small { result.0 < 256 }
 {
-    ItemNo((p / 1099511627776 % 256) as u32)
+    ItemNo(((p >> 40) % 256) as u32)
 }
 
 pub fn kind_of(p: u64) -> u32
     ensures { result ≡ (unpack p).kind }
 {
-    (p / 4294967296 % 256) as u32
+    ((p >> 32) % 256) as u32
 }
 
 pub fn word_of(p: u64) -> u32
@@ -59,5 +60,5 @@ pub fn is_write(p: u64) -> bool
 pub fn key_of(p: u64) -> u64
     ensures { result ≡ p / 2 ^ 32 }
 {
-    p / 4294967296
+    p >> 32
 }
