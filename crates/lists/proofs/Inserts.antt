@@ -1,13 +1,10 @@
 -- Putting an element in: lengths, parts, and what a map makes of it. Assumes nothing.
-use Prim.Native.Nat.{ℕ, zero, suc, ◌+◌, ◌-◌, ◌≤◌, ◌<◌}
+use Prim.Native.Nat.{ℕ, zero, suc, ◌≤◌}
 use native.Mathlib.Nat.{le_of_suc-le-suc, not-suc-le-zero}
-use native.Mathlib.Omega.{arith}
-use mathlib.Core.Path.{◌≡◌, refl, ap, sym, ◌∙◌}
-use mathlib.Core.List.{List, [], ◌∷◌, ◌++◌, append-nil, map}
-use borrow.Rule.Slice.PartMut.{put_mid}
-use lib.ListN.{length, take, drop, set, length-drop, drop_of_length-le}
-use lib.Seq.{take-append_seam, drop-cons}
-use Rattle.std.proofs.lemmas.List.{take_rest}
+use mathlib.Core.Path.{◌≡◌, refl, ap}
+use mathlib.Core.List.{List, [], ◌∷◌, ◌++◌, map}
+use lib.ListN.{length, take, drop}
+use lib.Seq.{take-append_seam}
 use Rattle.lists.specs.Tables.{insert_at, insert_in}
 
 module _ {A : Type 0} where
@@ -34,28 +31,6 @@ module _ {A : Type 0} where
   pub insert_in_past : (n : ℕ) (r : A) (xs : List A) → length xs ≤ n → insert_in n r xs ≡ xs
   unfolding insert_in
   insert_in_past n r xs h = rw (insert_past n r xs h) (take-append_seam xs (r ∷ []))
-
-  insert_in-split : (n k : ℕ) (r : A) (xs : List A) → length xs ≡ n + suc k → insert_in n r xs ≡ take n xs ++ r ∷ take k (drop n xs)
-  unfolding insert_in insert_at
-  insert_in-split n k r [] h = absurd (omega arith)
-  insert_in-split zero k r (x ∷ xs) h = ap (λ (j : ℕ). r ∷ take j (x ∷ xs)) (omega arith)
-  insert_in-split (suc n) k r (x ∷ xs) h = ap (λ (l : List A). x ∷ l) (insert_in-split n k r xs (omega arith))
-
-  -- the last moved to the front, where r replaces it
-  front : (k : ℕ) (r : A) (xs : List A) → length xs ≡ suc k → set (drop k xs ++ take k xs) 0 r ≡ r ∷ take k xs
-  front k r [] h = absurd (omega arith)
-  front k r (x ∷ xs) h = let l : k < length (x ∷ xs) = omega arith in let m : length (x ∷ xs) ≤ suc k = omega arith in rw (drop-cons (x ∷ xs) k x l, drop_of_length-le (x ∷ xs) m) refl
-
-  -- what putting r in leaves is the part from index n on, moved so
-  pub insert-rotated : (n : ℕ) (r : A) (xs ys : List A) → n < length xs
-      → ys ≡ drop (length (take (length xs - n) (drop n xs)) - 1) (take (length xs - n) (drop n xs)) ++ take (length (take (length xs - n) (drop n xs)) - 1) (take (length xs - n) (drop n xs))
-      → put_mid n (length xs - n) xs (set ys 0 r) ≡ insert_in n r xs
-  insert-rotated n r xs ys h e =
-      let k : ℕ = length (drop n xs) - 1 in
-      let long : length (drop n xs) ≡ suc k = omega (arith, length-drop n xs) in
-      let all : length (drop n xs) ≤ length xs - n = omega (arith, length-drop n xs) in
-      rw (e, take_rest xs n, front k r (drop n xs) long, drop_of_length-le (drop n xs) all)
-      (ap (λ (l : List A). take n xs ++ l) (append-nil (r ∷ take k (drop n xs))) ∙ sym (insert_in-split n k r xs (omega (arith, length-drop n xs))))
 
   pub insert-append : (n : ℕ) (r : A) (xs ys : List A) → n ≤ length xs → insert_at n r (xs ++ ys) ≡ insert_at n r xs ++ ys
   unfolding insert_at

@@ -5,3 +5,4 @@ pub mod Pads
 pub mod Scans
 pub mod Loops
 pub mod Firsts
+pub mod Insertions

@@ -1,18 +1,21 @@
-// Tables that a caller lends, changed in place: an entry goes in, the rest is cleared, what passes a test stays.
+// Tables that a caller lends, changed in place: an entry goes in, the rest is cleared, what passes a test stays. And the search for
+// the first that passes one.
 #![tactic(auto)]
 
-ghost use Rattle.std.specs.Prelude.{◌≡◌, Bool, length, take};
+ghost use Rattle.std.specs.Prelude.{◌≡◌, ◌≤◌, Bool, length, take};
 ghost use Rattle.rules.specs.Lists.{keep, padded};
-ghost use Rattle.lists.specs.Tables.{AnswersAs, insert_in};
+ghost use Rattle.lists.specs.Tables.{AnswersAs, first_index, insert_in};
 
 // Puts x in at index at: what stands from there on moves one place up, and the last is lost.
 pub fn insert_at<T: Copy>(table: &mut [T], at: usize, x: T)
     ensures { table.new ≡ insert_in at x table.old }
 {
-    if at < table.len() {
-        let tail = &mut table[at..];
-        tail.rotate_right(1);
-        tail[0] = x;
+    let mut held = x;
+    // Not `rotate_right`, which calls memmove: of the C library, what is linked into a C host calls memcpy and memset alone.
+    for i in at..table.len() {
+        let next = table[i];
+        table[i] = held;
+        held = next;
     }
 }
 
@@ -41,4 +44,18 @@ pub fn keep<T: Copy, F: Fn(&T) -> bool>(table: &mut [T], zero: T, keeps: F)
         }
     }
     clear_from(table, kept, zero);
+}
+
+// The index of the first element that stops the search, or else the length.
+pub fn first_index<T, F: Fn(&T) -> bool>(table: &[T], stops: F) -> usize
+    requires { F.IsAlwaysCallable stops }
+    ensures is { (p : T → Bool) → AnswersAs F.Fn stops p → result ≡ first_index p table.now }
+    ensures most { result ≤ length table.now }
+{
+    for (i, x) in table.iter().enumerate() {
+        if stops(x) {
+            return i;
+        }
+    }
+    table.len()
 }

@@ -1,10 +1,10 @@
--- `lists::insert_at` meets its contract: the last comes to the front of the part, where x replaces it. Assumes nothing.
-use Rattle.std.proofs.Common.{sym}
-use Rattle.lists.proofs.Inserts.{insert-rotated, insert_in_past}
+-- `lists::insert_at` meets its contract: `Inserting`. Assumes nothing.
+use Rattle.std.proofs.Common.{rules}
+use Rattle.lists.proofs.Insertions.{insert_done, insert_next}
 use Rattle.lists.proofs.insert_at.Goals as goal
 
-pub returns-then-at-table : goal.returns-then-at-table
-returns-then-at-table g c = insert-rotated _ _ _ _ c.if-at-table.true c.rotate_right.ensures.after
+pub loop-i-preserved : goal.loop-i-preserved
+loop-i-preserved g c = insert_next c.loop-i.invariant c.index-table-i.result (search rules) (search rules)
 
-pub returns-else-at-table : goal.returns-else-at-table
-returns-else-at-table g c = sym (insert_in_past _ _ _ c.if-at-table.false)
+pub returns : goal.returns
+returns g c = insert_done c.loop-i.invariant (search rules)
