@@ -2,22 +2,16 @@
 use Prim.Native.Nat.{ℕ, zero, suc, ◌+◌, ◌-◌, ◌≤◌, ◌<◌}
 use native.Mathlib.Decide.{dec_lt}
 use native.Mathlib.Omega.{arith}
-use mathlib.Core.Bool.{Bool, true, false, not, cond}
+use mathlib.Core.Bool.{Bool, true, false}
 use mathlib.Core.List.{List}
 use mathlib.Core.Path.{◌≡◌, refl, sym, ap, ◌∙◌}
 use lib.Dec.{ltb}
 use lib.ListN.{length, get_or, drop, take, replicate, length-take, length-drop}
 use lib.Seq.{take_all}
-use borrow.Author.Tests.{lt-ltb, le-ltb, ltb-false}
+use borrow.Author.Tests.{lt-ltb, le-ltb}
 use Rattle.lists.specs.Tables.{first_index}
 use Rattle.lists.proofs.Untils.{until_first, length-until}
 use Rattle.graph.proofs.Sets.{member-zero}
-use Rattle.std.specs.Prelude.{unwrap_or}
-use Rattle.std.specs.List.{position, position_or_len}
-use Rattle.std.proofs.lemmas.List.Recursion.{is_position_or_len}
-use Rattle.std.proofs.lemmas.List.Sums.{prefix_len-le-length}
-use Rattle.laws.proofs.Lists.{passed}
-use mathlib.Core.Logic.{◌⊎◌, inl, inr}
 use Rattle.edges.specs.Blocks.{has}
 
 -- ---- numbers in order

@@ -11,13 +11,15 @@ ghost use Rattle.edges.specs.Told.{EdgesTold, SpentTold};
 ghost use Rattle.edges.specs.Spent.{limit_of};
 
 use graph::{ROWS, Set};
+use lists::first_index;
 use packed::{is_write, item_of, txn_of};
 use terms::{Moment, Row, TxnNo};
 
 // As many items as a record can name.
 pub const ITEMS: usize = 256;
 
-// Two sets of rows for each: those that read it, and those that wrote it.
+// Two sets of rows for each: those that read it, and those that wrote it. In one table, since two would be one more parameter with
+// the same index.
 const SETS: usize = ITEMS + ITEMS;
 
 // How many records of t stand at the front.
@@ -25,9 +27,7 @@ fn count(part: &[u64], t: TxnNo) -> usize
     ensures is { result ≡ first_index (foreign t.0) part.now }
     ensures most { result ≤ length part.now }
 {
-    part.iter()
-        .position(|p| txn_of(*p) != t)
-        .unwrap_or(part.len())
+    first_index(part, |p| txn_of(*p) != t)
 }
 
 // What a row meets: how many records it has, the rows that wrote what it touched, and those that touched what it wrote. Itself is in neither set.
@@ -38,6 +38,7 @@ struct Others {
     by: Set,
 }
 
+// What is met, without the row itself. A function, since `meet` ends in two places.
 fn met(count: usize, touched: Set, by: Set, at: usize) -> Others
     requires { at < ROWS }
     ensures count { result.count ≡ count }
@@ -118,6 +119,7 @@ pub fn edges(rows: &[Row; ROWS], recs: &[u64]) -> [Set; ROWS]
     ensures { EdgesTold ROWS rows.now recs.now result }
 {
     let mut tab = [0; SETS];
+    // The commits by place, and not the rows: `past` asks for one for each row.
     let mut ends = [0; ROWS];
     let mut g = [0; ROWS];
     let mut before = 0;
@@ -155,7 +157,7 @@ fn late(rows: &[Row; ROWS], m: Moment) -> Set
     s
 }
 
-// The start of the first active row, or else a moment past all.
+// The start of the first active row, or else a moment past all. No Option: `limit_of` is that moment, and the caller compares with it.
 fn limit(rows: &[Row; ROWS]) -> Moment
     ensures { result.0 ≡ limit_of 4294967295 rows.now }
 {

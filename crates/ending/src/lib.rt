@@ -1,4 +1,5 @@
-// How a transaction ends: whether its commit closes a ring, what is left of it, and what is spent then.
+// How a transaction ends: whether its commit closes a ring, what is left of it, and what is spent then. The tables are parameters of their own, as in
+// `scheduler`.
 #![tactic(auto)]
 
 ghost use Rattle.std.specs.Prelude.{◌≡◌, length};

@@ -15,7 +15,7 @@ pub const ROWS: usize = 32;
 // A set of rows: row i is in it where the bit i is set.
 pub type Set = u32;
 
-// Whether i is in the set.
+// Whether i is in the set. A place is a plain index with `i < ROWS`: a type for it would be made and taken apart at each use.
 pub fn has(s: Set, i: usize) -> bool
     requires { i < ROWS }
     ensures { result ≡ member s i }

@@ -1,18 +1,16 @@
--- Chains over a table: `take_while` leaves the used part, and `any`, `find` and `position` answer what was asked of it. Assumes nothing.
+-- Chains over a table: `take_while` leaves the used part, and `any` and `find` answer what was asked of it. Assumes nothing.
 use Prim.Native.Nat.{ℕ}
-use native.Mathlib.Omega.{arith}
-use mathlib.Core.Bool.{Bool, true, false, not, cond, ◌&&◌, ◌||◌}
+use mathlib.Core.Bool.{Bool, true, false, not, ◌&&◌, ◌||◌}
 use mathlib.Core.List.{List, [], ◌∷◌, map}
 use mathlib.Core.Logic.{◌⊎◌, inl, inr}
 use mathlib.Core.Path.{◌∙◌, ◌≡◌, ap, refl, sym, subst}
 use denote.Param.Members.{Mut}
 use denote.Ref.{Bor}
-use lib.Dec.{eqb, ltb}
-use lib.ListN.{length, take}
-use borrow.Author.Tests.{ltb-false}
+use lib.Dec.{eqb}
+use lib.ListN.{take}
 use Rattle.std.specs.Prelude.{option_map, unwrap_or}
 use Rattle.std.specs.Fn.{CalledAt}
-use Rattle.std.specs.List.{list_any, position, position_or_len, find}
+use Rattle.std.specs.List.{list_any, find}
 use Rattle.std.specs.Iterator.Adapters.{take_while_source, take_while_done, take_while_callee, take_while_steps}
 use Rattle.std.specs.declared.iter.TakeWhile.{TakeWhile}
 use Rattle.std.proofs.Common.{Iter}
@@ -20,14 +18,12 @@ use Rattle.std.proofs.lemmas.Fn.{fronts}
 use Rattle.std.proofs.lemmas.Iterator.{YieldsList, YieldsList-from_slice}
 use Rattle.std.proofs.lemmas.Iterator.Consumers.{YieldsList-at}
 use Rattle.std.proofs.lemmas.Iterator.Search.{YieldsList-from_take_while}
-use Rattle.std.proofs.lemmas.List.Recursion.{is_position_or_len, same_from_clauses}
-use Rattle.std.proofs.lemmas.List.Sums.{prefix_len-le-length}
+use Rattle.std.proofs.lemmas.List.Recursion.{same_from_clauses}
 use Rattle.terms.specs.declared.Row.{Row}
 use Rattle.terms.specs.Words.{active, num}
 use Rattle.rules.specs.Lists.{any, until}
 use Rattle.rules.specs.State.{is_active, is_rec, recorded, row_of, word_in}
 use Rattle.rules.specs.Raw.{unpack, zero_row}
-use Rattle.lists.specs.Tables.{first_index}
 use Rattle.lists.proofs.Firsts.{first_listed}
 use Rattle.lists.proofs.Untils.{until_first}
 use Rattle.laws.proofs.Lists.{passed}

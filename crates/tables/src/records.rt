@@ -5,12 +5,12 @@ ghost use Rattle.rules.specs.State.{is_rec, recorded, word_in};
 ghost use Rattle.rules.specs.Raw.{unpack, used_recs};
 ghost use Rattle.bridge.specs.Whole.{used_of, place_of, put_in, put_over, other_rec};
 
-use lists::{insert_at, keep};
+use lists::{first_index, insert_at, keep};
 use packed::{item_of, key_of, kind_of, txn_of, word_of};
 use terms::{ItemNo, TxnNo};
 
-// Is p the record of transaction t, item i and kind k?
-fn is_rec(p: u64, t: TxnNo, i: ItemNo, k: u32) -> bool
+// Is p the record of transaction t, item i and kind k? The kind is a number, as `Rec.kind` is.
+pub fn is_rec(p: u64, t: TxnNo, i: ItemNo, k: u32) -> bool
     ensures { result ≡ is_rec t.0 i.0 k (unpack p) }
 {
     txn_of(p) == t && item_of(p) == i && kind_of(p) == k
@@ -25,7 +25,7 @@ pub fn has_rec(recs: &[u64], t: TxnNo, i: ItemNo, k: u32) -> bool
         .any(|p| is_rec(*p, t, i, k))
 }
 
-// The word of t's record of item i and kind k, or 0.
+// The word of t's record of item i and kind k. It is 0 where there is none, as in the definition `word_in`.
 pub fn word_in(recs: &[u64], t: TxnNo, i: ItemNo, k: u32) -> u32
     ensures { result ≡ word_in t.0 i.0 k (map unpack (used_recs recs.now)) }
 {
@@ -39,9 +39,7 @@ pub fn word_in(recs: &[u64], t: TxnNo, i: ItemNo, k: u32) -> u32
 pub fn place(recs: &[u64], key: u64) -> usize
     ensures { result ≡ place_of key recs.now }
 {
-    recs.iter()
-        .position(|p| *p == 0 || key <= key_of(*p))
-        .unwrap_or(recs.len())
+    first_index(recs, |p| *p == 0 || key <= key_of(*p))
 }
 
 // Puts p in at its place: what stands from there on moves one place up.

@@ -7,7 +7,7 @@ ghost use Rattle.rules.specs.Raw.{used_rows, zero_row};
 ghost use Rattle.bridge.specs.Whole.{used_of, other_row};
 
 use graph::ROWS;
-use lists::keep;
+use lists::{first_index, keep};
 use terms::{Moment, Row, TxnNo};
 
 // A table with no used row.
@@ -21,12 +21,10 @@ pub fn no_rows() -> [Row; ROWS]
 pub fn used(rows: &[Row]) -> usize
     ensures { result ≡ length (used_rows rows.now) }
 {
-    rows.iter()
-        .position(|r| r.number == TxnNo(0))
-        .unwrap_or(rows.len())
+    first_index(rows, |r| r.number == TxnNo(0))
 }
 
-// The row with the number t, or the free row.
+// The row with the number t, or the free row. No Option, as in the definition `row_of`.
 pub fn row_of(rows: &[Row], t: TxnNo) -> Row
     ensures { result ≡ row_of (used_rows rows.now) t.0 }
 {

@@ -13,6 +13,9 @@ use super::rows::row_of;
 use packed::{is_write, item_of, txn_of, word_of};
 use terms::{ItemNo, Moment, Row, TxnNo, Version};
 
+// As many items as a record can name.
+const ITEMS: usize = 256;
+
 // The version by the write of item i whose transaction has the latest commit before a moment.
 fn latest_write(rows: &[Row], recs: &[u64], i: ItemNo, before: Moment) -> Option<Version>
     ensures { result ≡ version_in (best_of (used_rows rows.now) i.0 before.0 (map unpack (used_recs recs.now)) none) }
@@ -57,11 +60,11 @@ pub fn visible(
     })
 }
 
-// Which items t wrote: an item in a record is below 256.
-fn wrote_items(recs: &[u64], t: TxnNo) -> [bool; 256]
+// Which items t wrote.
+fn wrote_items(recs: &[u64], t: TxnNo) -> [bool; ITEMS]
     ensures { Marked result recs.now t.0 }
 {
-    let mut marks = [false; 256];
+    let mut marks = [false; ITEMS];
     for p in recs {
         if *p == 0 {
             return marks;

@@ -78,7 +78,7 @@ pub fn rows_without(rows: &mut [Row; ROWS], gone: Set)
     ensures { rows.new ≡ padded ROWS zero_row (leaving (member gone) 0 rows.old) }
 {
     let mut kept = 0;
-    // By places: it writes the table that it reads.
+    // By places: it writes the table that it reads. Not `lists::keep`, since the test goes by the place.
     for at in 0..ROWS {
         if !graph::has(gone, at) {
             rows[kept] = rows[at];
@@ -94,7 +94,7 @@ pub fn recs_without(recs: &mut [u64], rows: &[Row; ROWS], gone: Set)
 {
     let mut leaving = Leaving::new(rows, gone);
     let mut kept = 0;
-    // By places, for the same reason.
+    // By places: it writes the table that it reads. Not `lists::keep`, since the test changes with each record.
     for at in 0..recs.len() {
         let p = recs[at];
         if p == 0 {
