@@ -38,7 +38,7 @@ pub fn has_base(next: u32, used: &[Row], writers: &[u32]) -> bool
     if are_below(writers, lowest(next, used)) {
         return true;
     }
-    // `all` is no plainer: its proof did not close.
+    // Tried with `all`: the proof did not close.
     for w in writers {
         if !is_fair(next, used, *w) {
             return false;

@@ -20,6 +20,7 @@ pub fn has_head(count: u32, next: u32, moment: u32, used: &[Row]) -> bool
     ensures { result ≡ headed (held count next moment [] [] used.now []) }
 {
     let ended = commits(used);
+    // `as` here and below, since there is no From between usize and u64.
     let going_on = (used.len() - ended) as u64;
     let next = u64::from(next);
     let moment = u64::from(moment);

@@ -12,15 +12,16 @@ ghost use Rattle.sound.specs.Items.{earlier_than, is_install, newest_of};
 
 use edges::ITEMS;
 use graph::{ROWS, Set};
-use packed::{RECS, is_read, is_write, item_of, word_of};
+use packed::{is_read, is_write, item_of, word_of};
 use terms::Row;
 
 // For each used row, the committed ones before it that ended before its start. Starts ascend, so one that ended stays so for all that follow.
-fn earlier(used: &[Row]) -> [Set; ROWS]
+pub fn earlier(used: &[Row]) -> [Set; ROWS]
     requires { (length used.now ≤ ROWS) × (rises used.now ≡ true) }
     ensures { Tabled (length used.now) result (earlier_than used.now) }
 {
     let mut early = [0; ROWS];
+    // The commits by place, and not the rows: `past` asks for one for each row.
     let mut ends = [0; ROWS];
     let mut kept = 0;
     let mut done = 0;
@@ -71,13 +72,8 @@ fn is_seen(p: u64, s: Set, used: &[Row], base: u32) -> bool
 
 // Are no two committed writers of one item concurrent, and does each read word name the version seen? The records stand by row, so the writers met
 // so far are all those that can have ended before.
-pub fn has_items(
-    used: &[Row],
-    filed: &[u64],
-    owners: &[usize; RECS],
-    writers: &[u32; ITEMS],
-) -> bool
-    requires { (length used.now ≤ ROWS) × (length filed.now ≤ RECS) × (ascends used.now ≡ true) × (rises used.now ≡ true) × Owners (length filed.now) used.now filed.now owners.now × (sorted filed.now ≡ true) }
+pub fn has_items(used: &[Row], filed: &[u64], owners: &[usize], writers: &[u32; ITEMS]) -> bool
+    requires { (length used.now ≤ ROWS) × (length filed.now ≤ length owners.now) × (ascends used.now ≡ true) × (rises used.now ≡ true) × Owners (length filed.now) used.now filed.now owners.now × (sorted filed.now ≡ true) }
     ensures { ItemsTold used.now filed.now writers.now result }
 {
     let early = earlier(used);

@@ -1,4 +1,5 @@
-// Whether lent tables are sound: one test for each sentence of document 01's section.
+// Whether lent tables are sound: one test for each sentence of the rules' section. What the rows have to be stands in each function's clause,
+// since not each asks for all of it.
 #![tactic(auto)]
 
 ghost use Rattle.std.specs.Prelude.{◌≡◌, true, ◌≤◌, length};
@@ -13,10 +14,11 @@ use crate::items::has_items;
 use crate::records::has_records;
 use crate::rings::has_ring;
 use crate::rows::has_rows;
-use crate::shape::{has_shape, used_recs, used_rows};
+use crate::shape::{has_shape, used_recs};
 use edges::ITEMS;
 use graph::ROWS;
 use packed::RECS;
+use tables::rows::used;
 use terms::Row;
 
 pub mod base;
@@ -32,26 +34,28 @@ fn has_links(count: u32, next: u32, writers: &[u32; ITEMS], used: &[Row], filed:
     requires { (count ≤ ITEMS) × (length used.now ≤ ROWS) × (length filed.now ≤ RECS) × (ascends used.now ≡ true) × (rises used.now ≡ true) }
     ensures { LinksTold count next writers.now used.now filed.now result }
 {
+    // Filled once, in fixed memory.
     let mut owners = [0; RECS];
     has_records(count, used, filed, &mut owners)
         && has_base(next, used, &writers[..count as usize])
         && has_items(used, filed, &owners, writers)
 }
 
-// Do the tables pass all tests but those of dependencies?
+// Do the tables pass all tests but those of dependencies? The five tables are parameters of their own, as in `scheduler`: so in `sound` and
+// `has_shape`.
 pub fn is_tested(head: &[u32], values: &[u32], writers: &[u32], rows: &[Row], recs: &[u64]) -> bool
     ensures is { result ≡ tested_raw ROWS RECS (raw head.now values.now writers.now rows.now recs.now) }
     ensures rows { result ≡ true → length rows.now ≡ ROWS }
 {
-    let used = used_rows(rows);
+    let many = used(rows);
     let filed = used_recs(recs);
-    if !has_shape(head, values, writers, rows, recs, used, filed) {
+    if !has_shape(head, values, writers, rows, recs, many, filed) {
         return false;
     }
     let count = head[0];
     let next = head[1];
     let moment = head[2];
-    let used = &rows[..used];
+    let used = &rows[..many];
     let filed = &recs[..filed];
     let writers = writers.as_array::<ITEMS>().unwrap();
     has_head(count, next, moment, used)

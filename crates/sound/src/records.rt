@@ -5,7 +5,7 @@ ghost use Rattle.sound.specs.Parts.{held};
 ghost use Rattle.sound.specs.Rows.{ascends};
 ghost use Rattle.sound.specs.Records.{filed_after, sorted, Owners};
 
-use packed::{RECS, item_of, key_of, kind_of, txn_of};
+use packed::{item_of, key_of, kind_of, txn_of};
 use terms::{READ, Row, WRITE};
 
 // Is the key of p above the last, its kind one of the two and its item below count?
@@ -17,8 +17,8 @@ fn is_filed(p: u64, last: u64, count: u32) -> bool
 }
 
 // One pass over the two tables, which ascend: each row takes its records, and none is left. Says of each record the index of its row.
-pub fn has_records(count: u32, used: &[Row], filed: &[u64], owners: &mut [usize; RECS]) -> bool
-    requires { (length filed.now ≤ RECS) × (ascends used.now ≡ true) }
+pub fn has_records(count: u32, used: &[Row], filed: &[u64], owners: &mut [usize]) -> bool
+    requires { (length filed.now ≤ length owners.old) × (ascends used.now ≡ true) }
     ensures is { result ≡ (sorted filed.now && owned (held count 0 0 [] [] used.now filed.now)) }
     ensures owners { result ≡ true → Owners (length filed.now) used.now filed.now owners.new }
 {

@@ -1,4 +1,5 @@
-// The rows: ascending numbers and starts, in range; distinct moments; each commit after its own start.
+// The rows: ascending numbers and starts, in range; distinct moments; each commit after its own start. Next number and next moment are the head's plain
+// numbers, and are compared as such.
 ghost use Rattle.std.specs.Prelude.{◌≡◌, true, ◌&&◌, [], ℕ};
 ghost use Rattle.terms.specs.Words.{num, start};
 ghost use Rattle.rules.specs.Lists.{all, pairs};
@@ -21,7 +22,7 @@ fn ends_well(r: Row, moment: u32) -> bool
 fn is_fine(r: Row, before: Row, next: u32, moment: u32) -> bool
     ensures { result ≡ fine_row next moment (num before) (start before) r }
 {
-    before.number.0 < r.number.0
+    before.number < r.number
         && r.number.0 < next
         && before.start < r.start
         && r.start.0 < moment

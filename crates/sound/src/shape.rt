@@ -6,23 +6,16 @@ ghost use Rattle.sound.specs.Shape.{is_zero, no_row, raw, shaped};
 
 use edges::ITEMS;
 use graph::ROWS;
+use lists::first_index;
 use packed::RECS;
 use terms::Row;
 
-pub fn used_rows(rows: &[Row]) -> usize
-    ensures is { result ≡ first_index no_row rows.now }
-    ensures bound { result ≤ length rows.now }
-{
-    rows.iter()
-        .position(|r| r.number.0 == 0)
-        .unwrap_or(rows.len())
-}
-
+// How many records are used.
 pub fn used_recs(recs: &[u64]) -> usize
     ensures is { result ≡ first_index is_zero recs.now }
     ensures bound { result ≤ length recs.now }
 {
-    recs.iter().position(|p| *p == 0).unwrap_or(recs.len())
+    first_index(recs, |p| *p == 0)
 }
 
 // Are all entries zero? All are looked at, with no way out: the compiler then takes several at a time.
@@ -33,6 +26,7 @@ fn is_clear<T: Copy + PartialEq>(part: &[T], zero: T) -> bool
 }
 
 // Have the tables their lengths, and zeros behind the items, the rows and the records?
+// `used` and `filed` are passed, since the caller needs them too.
 #[tactic(auto, using(crate::proofs::Shapes::first_most), unfolding(crate::specs::Shape::shaped))]
 pub fn has_shape(
     head: &[u32],
