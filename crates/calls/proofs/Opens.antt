@@ -2,10 +2,10 @@
 use Prim.Native.Nat.{ℕ, ◌-◌, ◌≤◌}
 use mathlib.Core.Bool.{Bool, ◌&&◌, and-eq-true_iff, false, true}
 use mathlib.Core.List.{List, [], ◌∷◌, ◌++◌}
-use mathlib.Core.Path.{◌∙◌, ◌≡◌, ap, sym}
+use mathlib.Core.Path.{◌∙◌, ◌≡◌, ap, refl, sym}
 use native.Mathlib.Nat.{sub-zero}
 use native.Mathlib.Omega.{arith}
-use lib.ListN.{drop, length, length-drop, replicate}
+use lib.ListN.{drop, length, length-drop, replicate, take}
 use borrow.Author.Tests.{eqb-true, leb-true}
 use Rattle.std.specs.Prelude.{Err, Ok}
 use Rattle.terms.specs.Words.{Answer}
@@ -45,6 +45,14 @@ counted c vs h =
     let v = simp and-eq-true_iff at h in
     let e = eqb-true (length vs) c v.1 in
     (e, omega (arith, e, leb-true c 256 v.0.1))
+
+take_none : {A : Type 0} (l : List A) → take 0 l ≡ []
+take_none [] = refl
+take_none (x ∷ l) = refl
+
+-- a table that is cleared from its start on
+pub cleared : {A : Type 0} (z : A) (l : List A) → padded (length l) z (take 0 l) ≡ replicate (length l) z
+cleared z l = (λ j. padded (length l) z (take_none l j)) ∙ ap (λ (k : ℕ). replicate k z) (sub-zero (length l))
 
 module _ (n m c : ℕ) (vs : List ℕ) (w : Raw) where
   outcome : Bool → Bool → Answer × Raw

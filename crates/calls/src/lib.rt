@@ -1,5 +1,6 @@
 // The calls on tables that are known to be sound: each does what the rules say, with no test for answer 1. Each table is a parameter of its own, so
-// that a caller lends by `&` what a call only reads.
+// that a caller lends by `&` what a call only reads. `scheduler` has the same calls with the test: one function for both would take the test as a
+// parameter, and its contract would be no shorter than the two.
 #![tactic(auto)]
 
 ghost use Rattle.std.specs.Prelude.{◌≡◌, ◌<◌, ◌≤◌, true, false, [], length, get_or, MatchResult};
@@ -13,6 +14,7 @@ ghost use Rattle.calls.specs.Lent.{raw, Sound};
 use edges::{ITEMS, edges};
 use ending::{end, has_ring, tidy};
 use graph::ROWS;
+use lists::clear_from;
 use packed::{RECS, pack};
 use tables::records::{change, has_rec, insert, word_in};
 use tables::rows::{add, commit as commit_row, is_active, row_of, used};
@@ -26,7 +28,7 @@ pub mod board;
 fn is_openable(count: u32, start: &[u32]) -> bool
     ensures { result ≡ openable count start.now }
 {
-    1 <= count && count <= 256 && start.len() == count as usize
+    1 <= count && count as usize <= ITEMS && start.len() == count as usize
 }
 
 // Have the tables the board's lengths?
@@ -60,10 +62,10 @@ pub fn open(
     head.copy_from_slice(&[count, 1, 1]);
     let (used, free) = values.split_at_mut(start.len());
     used.copy_from_slice(start);
-    free.fill(0);
-    writers.fill(0);
-    rows.fill(Row::default());
-    recs.fill(0);
+    clear_from(free, 0, 0);
+    clear_from(writers, 0, 0);
+    clear_from(rows, 0, Row::default());
+    clear_from(recs, 0, 0);
     Ok(0)
 }
 

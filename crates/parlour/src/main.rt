@@ -10,6 +10,7 @@ use runner::run;
 use std::io::Read;
 use steps::four;
 
+// The text is built in a buffer that is lent, in fixed memory, and its length is handed on: the contract of `report` says every byte of it.
 // Puts a number's digits at the start of a text, and answers how many they are.
 #[tactic(auto, using(crate::proofs::Texts::number_put))]
 fn put_number(text: &mut [u8], n: u32) -> usize
@@ -56,6 +57,7 @@ fn report(file: &[u8], text: &mut [u8]) -> usize
     ensures text_after { take result text.new ≡ shown file.now }
 {
     let mut answers = [0u8; 40960];
+    // The buffer has room for 8,192 answers, so only a file that is too long is refused.
     let Ok(outcome) = run(file, &mut answers) else {
         return put_line(text, 11, 0);
     };
@@ -69,6 +71,7 @@ fn read_full<R: Read>(input: &mut R, buf: &mut [u8]) -> usize
     ensures given { Consumes (R.remaining input.old) (R.remaining input.new) (take result buf.new) }
 {
     let mut done = 0;
+    // No `for`: a read gives as many bytes as it likes.
     while done < buf.len() {
         match input.read(&mut buf[done..]) {
             Ok(n) if n > 0 => done += n,

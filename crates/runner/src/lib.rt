@@ -12,6 +12,7 @@ ghost use Rattle.runner.specs.Run.{answers_in, answers_to, code, narrow, run_on,
 
 use calls::board::Board;
 use calls::{abort, begin, commit, latest, open, read, write};
+use edges::ITEMS;
 use reader::step_at;
 use std::error::Error;
 use std::fmt;
@@ -62,7 +63,7 @@ fn open_zeros(board: &mut Board, items: u32) -> Answer
     if 256 < items {
         return Err(Refusal::BadOpening);
     }
-    let zeros = [0; 256];
+    let zeros = [0; ITEMS];
     open(
         items,
         &zeros[..items as usize],
@@ -75,11 +76,11 @@ fn open_zeros(board: &mut Board, items: u32) -> Answer
 }
 
 // A step on sound tables.
-fn call(board: &mut Board, step: Step) -> Answer
-    requires { Sound (raw_on board.old) }
-    ensures { (result, raw_on board.new) ≡ call_on 32 256 (call_of step) (raw_on board.old) }
+fn on_sound(b: &mut Board, step: Step) -> Answer
+    requires { Sound (raw_on b.old) }
+    ensures { (result, raw_on b.new) ≡ call_on 32 256 (call_of step) (raw_on b.old) }
 {
-    let b = board;
+    // Each arm has other arguments, so a table of functions would be no plainer.
     match step {
         Step::Open(items) => open_zeros(b, items),
         Step::Begin => begin(&mut b.head, &b.values, &b.writers, &mut b.rows, &b.recs),
@@ -115,7 +116,7 @@ fn call(board: &mut Board, step: Step) -> Answer
 }
 
 // A step on closed tables: an opening opens them, and for every other they are unsound.
-fn first(board: &mut Board, step: Step) -> Answer
+fn on_closed(board: &mut Board, step: Step) -> Answer
     requires { Closed (raw_on board.old) }
     ensures { (result, raw_on board.new) ≡ call_on 32 256 (call_of step) (raw_on board.old) }
 {
@@ -131,9 +132,9 @@ fn advance(board: &mut Board, step: Step) -> Answer
     ensures { (result, raw_on board.new) ≡ call_on 32 256 (call_of step) (raw_on board.old) }
 {
     if board.head[0] == 0 {
-        return first(board, step);
+        return on_closed(board, step);
     }
-    call(board, step)
+    on_sound(board, step)
 }
 
 // Runs a file whose answers have room.
@@ -145,11 +146,14 @@ fn play(file: &[u8], out: &mut [u8]) -> Outcome
     let mut board = Board::closed();
     let mut at = 0;
     let mut n = 0;
+    // No `for`: a step is as long as its kind says.
     while at < file.len() {
         let found = step_at(file, at);
         let Some((step, _)) = found.decoded else {
+            // 10 answers no call, so no Refusal has it.
             let bad = Given {
                 number: 10,
+                // At most 8,191, and there is no From between usize and u32.
                 value: at as u32,
             };
             put_answer(out, 5 * n, bad);
@@ -177,7 +181,7 @@ pub fn run(file: &[u8], out: &mut [u8]) -> Result<Outcome, RunError>
     Ok(play(file, out))
 }
 
-// A run's result as the one number that C gets: 65,536 times the run's number plus the answers written.
+// A run's result as the one number that C gets: 65,536 times the run's number plus the answers written. The interface to C has these numbers.
 fn code(ended: Result<Outcome, RunError>) -> u64
     ensures { result ≡ code ended }
 {

@@ -1,4 +1,5 @@
-// The seven calls on tables that the caller owns together.
+// The seven calls on tables that the caller owns together. They are functions and no methods, since `Board` is of `calls`, where the same calls ask for
+// sound tables.
 ghost use Rattle.std.specs.Prelude.{◌≡◌};
 ghost use Rattle.rules.specs.Public.{abort_on, begin_on, commit_on, latest_on, open_on, read_on, write_on};
 ghost use Rattle.calls.specs.Lent.{raw_on};

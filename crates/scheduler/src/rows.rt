@@ -1,4 +1,4 @@
-// A row table of any length: a row is found, added and removed in place, and the first 32 rows are copied out of it and back.
+// For a caller of the scheduler: in a row table of any length a row is found, added and removed in place, and the first 32 rows are copied out and back.
 ghost use Rattle.std.specs.Prelude.{◌≡◌, ◌≤◌, length};
 ghost use Rattle.scheduler.specs.Loading.{loaded, over};
 

@@ -48,6 +48,7 @@ fn step_length(part: &[u8]) -> Option<usize>
     (n <= part.len()).then_some(n)
 }
 
+// The step that stands whole at the front. The kind is matched as a number, as in `length_of`.
 #[tactic(auto, using(crate::proofs::Bodies::room, crate::proofs::Bodies::last_kind), unfolding(crate::specs::Decoding::length_of, crate::specs::Decoding::step_of))]
 fn step_of(part: &[u8]) -> Step
     requires { 0 < whole part.now }
@@ -79,6 +80,7 @@ pub fn count(file: &[u8]) -> usize
 {
     let mut rest = file;
     let mut n = 0;
+    // No `for`: a step is as long as its kind says.
     while let Some(k) = step_length(rest) {
         rest = &rest[k..];
         n += 1;

@@ -2,7 +2,7 @@
 use Rattle.std.proofs.Common.{arith, ℕ, List, ◌≡◌, ◌++◌, ◌∙◌, ap, sym, length, replicate, Ok}
 use Rattle.rules.specs.Raw.{zero_row}
 use Rattle.calls.specs.Lent.{raw}
-use Rattle.calls.proofs.Opens.{counted, long, open_count, open_made, open_misfit}
+use Rattle.calls.proofs.Opens.{cleared, counted, long, open_count, open_made, open_misfit}
 use Rattle.calls.proofs.open.Goals.{then-not-is_openable-via-then-not-is_openable, then-not-is_openable-via-else-not-is_openable+then-not-is_fitting}
 use Rattle.calls.proofs.open.Goals as goal
 
@@ -18,9 +18,9 @@ split_at_mut-used-requires c = omega (arith, (counted _ _ (sym c.is_openable.ens
 pub returns : goal.returns
 returns c =
     let zero : c.default.result ≡ zero_row = λ j. record { number = record { 0 = c.default.ensures.0 j }; start = record { 0 = c.default.ensures.1.0 j }; commit = record { 0 = c.default.ensures.1.1 j } } in
-    (λ j. (Ok 0, raw (c.copy_from_slice.ensures.after j) (c.copy_from_slice-2.new.self ++ c.fill.new.self) c.fill-2.new.self c.fill-3.new.self c.fill-4.new.self))
+    (λ j. (Ok 0, raw (c.copy_from_slice.ensures.after j) (c.copy_from_slice-2.new.self ++ c.clear_from.new.table) c.clear_from-2.new.table c.clear_from-3.new.table c.clear_from-4.new.table))
     ∙ open_made 32 256 _ _ _ (sym c.is_openable.ensures ∙ c.if-not-is_openable.false) (sym c.is_fitting.ensures ∙ c.if-not-is_fitting.false)
-    (λ j. c.copy_from_slice-2.ensures.after j ++ (c.fill.ensures.after (λ h h'. h') ∙ ap (λ (l : List ℕ). replicate (length l) 0) c.split_at_mut-used.ensures.back) j)
-    (c.fill-2.ensures.after (λ h h'. h'))
-    (c.fill-3.ensures.after (λ h h'. h') ∙ ap (replicate (length c.args.rows.now)) zero)
-    (c.fill-4.ensures.after (λ h h'. h'))
+    (λ j. c.copy_from_slice-2.ensures.after j ++ (c.clear_from.ensures ∙ cleared 0 _ ∙ ap (λ (l : List ℕ). replicate (length l) 0) c.split_at_mut-used.ensures.back) j)
+    (c.clear_from-2.ensures ∙ cleared 0 _)
+    (c.clear_from-3.ensures ∙ cleared _ _ ∙ ap (replicate (length c.args.rows.now)) zero)
+    (c.clear_from-4.ensures ∙ cleared 0 _)

@@ -6,8 +6,8 @@ use Rattle.runner.proofs.advance.Goals as goal
 pub bounds-board-0 : goal.bounds-board-0
 bounds-board-0 c = omega (arith, (ready_long _ c.requires).head)
 
-pub first-requires : goal.first-requires
-first-requires c = ready_closed _ c.requires c.if-board-eq0.true
+pub on_closed-requires : goal.on_closed-requires
+on_closed-requires c = ready_closed _ c.requires c.if-board-eq0.true
 
-pub call-requires : goal.call-requires
-call-requires c = ready_sound _ c.requires c.if-board-eq0.false
+pub on_sound-requires : goal.on_sound-requires
+on_sound-requires c = ready_sound _ c.requires c.if-board-eq0.false
