@@ -11,14 +11,14 @@ use std::io::Read;
 use terms::{Answer, Given, ItemNo, Refusal, TxnNo};
 
 // Transaction t reads four items and writes four others, two of which the next one reads.
-fn accesses(board: &mut Board, t: u32) -> Answer
+fn accesses(board: &mut Board, t: u32) -> Result<(), Refusal>
     requires { t < 33 }
 {
     for k in 0..4 {
         read(board, TxnNo(t), ItemNo(6 * t + k))?;
         write(board, TxnNo(t), ItemNo(6 * t + 4 + k), k)?;
     }
-    Ok(0)
+    Ok(())
 }
 
 // 1 stays active and so keeps all others; 2 to 31 commit; 32 is active.
@@ -35,6 +35,7 @@ fn full() -> Result<Board, Refusal> {
     Ok(board)
 }
 
+// The call that a byte of the input says. A byte has no enum: it is matched here alone.
 fn one(which: u8, board: &mut Board) -> Answer {
     match which {
         1 => open(board, 256, &[0; 256]),

@@ -1,4 +1,4 @@
-// The cases of document 01 that no step file reaches or that are not marked P, through the public calls. One answer a line, number and value;
+// The cases of the rules that no step file reaches or that are not marked P, through the public calls. One answer a line, number and value;
 // for each unsound table, the numbers of the six calls' answers, and whether the tables stayed as they were.
 #![tactic(auto)]
 

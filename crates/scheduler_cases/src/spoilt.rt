@@ -23,6 +23,7 @@ fn row(at: usize, number: u32, start: u32, commit: u32) -> Change {
     Change::Rows(at, Row::new(number, start, commit))
 }
 
+// The kind is a number, as in `Rec`: some cases have one that is none.
 fn rec(at: usize, txn: u32, item: u32, kind: u32, word: u32) -> Change {
     Change::Recs(
         at,
@@ -61,7 +62,7 @@ fn board() -> [Change; 18] {
     ]
 }
 
-// What is changed in a case; in a few of them a second thing too.
+// What is changed in a case, by its number; in a few of them a second thing too.
 fn spoil(k: u32) -> Option<Change> {
     let change = match k {
         // "order": rows and records out of order, and two of one number or key
@@ -128,8 +129,8 @@ fn second(k: u32) -> Option<Change> {
     }
 }
 
-// A record of any kind and item as one number.
-fn packed(x: Rec) -> u64 {
+// A record of any kind and item as one number; `packed::pack` asks that each field fits.
+fn any_packed(x: Rec) -> u64 {
     let key = (u64::from(x.txn.0) << 16) | (u64::from(x.item.0) << 8) | u64::from(x.kind);
     (key << 32) | u64::from(x.word)
 }
@@ -193,7 +194,7 @@ impl Tables {
             Change::Values(at, x) => put(&mut self.values, at, x),
             Change::Writers(at, x) => put(&mut self.writers, at, x),
             Change::Rows(at, x) => put(&mut self.rows, at, x),
-            Change::Recs(at, x) => put(&mut self.recs, at, packed(x)),
+            Change::Recs(at, x) => put(&mut self.recs, at, any_packed(x)),
         }
     }
 

@@ -4,22 +4,14 @@
 ghost use Rattle.std.specs.Prelude.{◌<◌, length};
 
 use std::io;
-use terms::{Given, Step};
+use terms::Given;
 
 // The step at the front of a part, and its length.
 fn show(rt: &impl Print, part: &[u8]) -> io::Result<()> {
     let Some((step, k)) = steps::decode(part) else {
         return println!(rt; "bad");
     };
-    match step {
-        Step::Open(c) => println!(rt; "open {c}, {k}"),
-        Step::Begin => println!(rt; "begin, {k}"),
-        Step::Read(t, i) => println!(rt; "read {} {}, {k}", t.0, i.0),
-        Step::Write(t, i, v) => println!(rt; "write {} {} {v}, {k}", t.0, i.0),
-        Step::Commit(t) => println!(rt; "commit {}, {k}", t.0),
-        Step::Abort(t) => println!(rt; "abort {}, {k}", t.0),
-        Step::Latest(i) => println!(rt; "latest {}, {k}", i.0),
-    }
+    println!(rt; "{step}, {k}")
 }
 
 // A part, and the same without its last byte.

@@ -27,6 +27,7 @@ fn board() -> [Row; ROWS]
     rs
 }
 
+// The kind is a number, as in `Rec`.
 fn record(t: u32, i: u32, kind: u32, word: u32) -> u64
     requires { (t < 65536) × (i < 256) × (kind < 256) }
 {
