@@ -1,4 +1,5 @@
 // The edges between committed rows, as a set of rows for each row. The rows stand by ascending number and start, the records by transaction.
+// A place is a plain index below ROWS, as in `graph`; commits by place are plain numbers, 0 where none is kept.
 #![tactic(auto)]
 
 ghost use Rattle.std.specs.Prelude.{◌≡◌, not, ◌&&◌, ◌||◌, ℕ, ◌<◌, ◌≤◌, eqb, ltb, length, get_or};
@@ -12,11 +13,9 @@ ghost use Rattle.edges.specs.Spent.{limit_of};
 
 use graph::{ROWS, Set};
 use lists::first_index;
+pub use packed::ITEMS;
 use packed::{is_write, item_of, txn_of};
 use terms::{Moment, Row, TxnNo};
-
-// As many items as a record can name.
-pub const ITEMS: usize = 256;
 
 // Two sets of rows for each: those that read it, and those that wrote it. In one table, since two would be one more parameter with
 // the same index.

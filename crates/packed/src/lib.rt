@@ -7,7 +7,9 @@ ghost use Rattle.terms.specs.Words.{is_read, is_write, item, txn};
 
 use terms::{ItemNo, READ, Rec, TxnNo, WRITE};
 
-// As many records as a table of records has room for.
+// As many items as a record can name, and as many records as a table of records has room for.
+pub const ITEMS: usize = 256;
+
 pub const RECS: usize = 256;
 
 pub fn pack(x: Rec) -> u64

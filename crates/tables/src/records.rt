@@ -1,4 +1,5 @@
-// Access records, packed one to a u64, in a table that the caller lends. Scans stop at the first unused record.
+// Access records, packed one to a u64, in a table that the caller lends. Scans stop at the first unused record. A kind is a number, as
+// `Rec.kind` is.
 ghost use Rattle.std.specs.Prelude.{◌≡◌, ◌/◌, ◌^◌, map, [], length};
 ghost use Rattle.rules.specs.Lists.{keep, padded};
 ghost use Rattle.rules.specs.State.{is_rec, recorded, word_in};
@@ -9,7 +10,7 @@ use lists::{first_index, insert_at, keep};
 use packed::{item_of, key_of, kind_of, txn_of, word_of};
 use terms::{ItemNo, TxnNo};
 
-// Is p the record of transaction t, item i and kind k? The kind is a number, as `Rec.kind` is.
+// Is p the record of transaction t, item i and kind k?
 pub fn is_rec(p: u64, t: TxnNo, i: ItemNo, k: u32) -> bool
     ensures { result ≡ is_rec t.0 i.0 k (unpack p) }
 {

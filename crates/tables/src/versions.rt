@@ -1,5 +1,5 @@
 // Versions: which one of an item is visible before a moment, and who is beaten. Each is found in passes over the records, which stop at
-// the first unused one.
+// the first unused one. The tables are parameters of their own, as in `scheduler`.
 ghost use Rattle.std.specs.Prelude.{◌≡◌, map, [], ◌<◌, length};
 ghost use Rattle.rules.specs.Versions.{version_at};
 ghost use Rattle.rules.specs.Deps.{beaten};
@@ -10,11 +10,8 @@ ghost use Rattle.tables.specs.Best.{best_of, none, version_in};
 ghost use Rattle.tables.specs.Marks.{Marked};
 
 use super::rows::row_of;
-use packed::{is_write, item_of, txn_of, word_of};
+use packed::{ITEMS, is_write, item_of, txn_of, word_of};
 use terms::{ItemNo, Moment, Row, TxnNo, Version};
-
-// As many items as a record can name.
-const ITEMS: usize = 256;
 
 // The version by the write of item i whose transaction has the latest commit before a moment.
 fn latest_write(rows: &[Row], recs: &[u64], i: ItemNo, before: Moment) -> Option<Version>
