@@ -1,6 +1,7 @@
 // The calls on tables that are known to be sound: each does what the rules say, with no test for answer 1. Each table is a parameter of its own, so
 // that a caller lends by `&` what a call only reads. `scheduler` has the same calls with the test: one function for both would take the test as a
-// parameter, and its contract would be no shorter than the two.
+// parameter, and its contract would be no shorter than the two. The head is lent as three numbers, and values and writers as two tables: so the rules
+// have them.
 #![tactic(auto)]
 
 ghost use Rattle.std.specs.Prelude.{◌≡◌, ◌<◌, ◌≤◌, true, false, [], length, get_or, MatchResult};
@@ -31,7 +32,7 @@ fn is_openable(count: u32, start: &[u32]) -> bool
     1 <= count && count as usize <= ITEMS && start.len() == count as usize
 }
 
-// Have the tables the board's lengths?
+// Have the tables the board's lengths? `sound` looks at the same five, but an opening has no soundness to test, and this crate does not rest on it.
 #[tactic(auto, unfolding(rules::specs::Public::fitting))]
 fn is_fitting(head: &[u32], values: &[u32], writers: &[u32], rows: &[Row], recs: &[u64]) -> bool
     ensures { result ≡ fitting 32 256 (raw head.now values.now writers.now rows.now recs.now) }

@@ -57,7 +57,7 @@ fn report(file: &[u8], text: &mut [u8]) -> usize
     ensures text_after { take result text.new ≡ shown file.now }
 {
     let mut answers = [0u8; 40960];
-    // The buffer has room for 8,192 answers, so only a file that is too long is refused.
+    // The buffer has room for 8,192 answers, so only a file that is too long is refused. What is printed then has the number 11 in it.
     let Ok(outcome) = run(file, &mut answers) else {
         return put_line(text, 11, 0);
     };

@@ -164,6 +164,7 @@ fn play(file: &[u8], out: &mut [u8]) -> Outcome
         at = found.at;
         n += 1;
     }
+    // Narrowed by `as`, here and above: a file has at most 8,192 answers.
     Outcome::Complete(n as u16)
 }
 
@@ -193,7 +194,8 @@ fn code(ended: Result<Outcome, RunError>) -> u64
     }
 }
 
-// The same under the name that it has for C, where the crate runner_c exports it.
+// The same under the name that it has for C, with the numbers of a run that C has. The crate runner_c exports it, since a static library is no library
+// for other crates.
 pub fn parlour_run(steps: &[u8], answers: &mut [u8]) -> u64
     ensures answers_after { (result, answers.new) ≡ run_on 32 256 steps.now answers.old }
     ensures room_in_bytes { result < 65536 * 11 → all narrow (answers_to 32 256 (steps_of steps.now)) ≡ true }

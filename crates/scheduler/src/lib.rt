@@ -1,6 +1,6 @@
 // The seven calls on lent tables. The tables may be of any length and hold anything: those that are not sound are answered 1 and left as they are;
 // open answers 9 where a length is wrong, and does not look at what stood there. Each table is a parameter of its own, so that a caller lends by `&`
-// what a call only reads.
+// what a call only reads. `calls` has the same calls without the test, and says why.
 #![tactic(auto)]
 
 ghost use Rattle.std.specs.Prelude.{◌≡◌, true, false, MatchResult};

@@ -1,4 +1,5 @@
-// The writers in the value tables: below the next number, and of no row.
+// The writers in the value tables: below the next number, and of no row. Writers are lent as plain numbers, and compared as such.
+// What the rows have to be stands in each clause, as `lib.rt` says.
 ghost use Rattle.std.specs.Prelude.{◌≡◌, true, map, ℕ, ◌<◌, ltb};
 ghost use Rattle.terms.specs.Words.{num};
 ghost use Rattle.rules.specs.Lists.{all};

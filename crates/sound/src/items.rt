@@ -1,5 +1,5 @@
 // What the records say of each item: who wrote it, whether two of the writers are concurrent, and which version a read sees. Rows are named by
-// their index, sets of rows are words.
+// their index, sets of rows are words. What the rows have to be stands in each clause, as `lib.rt` says.
 ghost use Rattle.std.specs.Prelude.{◌≡◌, true, false, not, ◌||◌, map, ℕ, ◌≤◌, ◌<◌, eqb, length};
 ghost use Rattle.graph.specs.Fill.{Tabled};
 ghost use Rattle.graph.specs.Sets.{member};
@@ -71,7 +71,7 @@ fn is_seen(p: u64, s: Set, used: &[Row], base: u32) -> bool
 }
 
 // Are no two committed writers of one item concurrent, and does each read word name the version seen? The records stand by row, so the writers met
-// so far are all those that can have ended before.
+// so far are all those that can have ended before. `owners` is what `has_records` filled, in fixed memory.
 pub fn has_items(used: &[Row], filed: &[u64], owners: &[usize], writers: &[u32; ITEMS]) -> bool
     requires { (length used.now ≤ ROWS) × (length filed.now ≤ length owners.now) × (ascends used.now ≡ true) × (rises used.now ≡ true) × Owners (length filed.now) used.now filed.now owners.now × (sorted filed.now ≡ true) }
     ensures { ItemsTold used.now filed.now writers.now result }

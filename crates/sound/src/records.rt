@@ -1,4 +1,5 @@
 // The records: ascending keys, kind 1 or 2, of a used row and an item below count; and which row each belongs to.
+// What the rows have to be stands in each clause, as `lib.rt` says.
 ghost use Rattle.std.specs.Prelude.{◌≡◌, true, ◌&&◌, [], ◌≤◌, length};
 ghost use Rattle.rules.specs.Sound.{owned};
 ghost use Rattle.sound.specs.Parts.{held};
@@ -16,7 +17,8 @@ fn is_filed(p: u64, last: u64, count: u32) -> bool
     last < key_of(p) && READ <= kind_of(p) && kind_of(p) <= WRITE && item_of(p).0 < count
 }
 
-// One pass over the two tables, which ascend: each row takes its records, and none is left. Says of each record the index of its row.
+// One pass over the two tables, which ascend: each row takes its records, and none is left. Says of each record the index of its row,
+// in a table that the caller lends: fixed memory.
 pub fn has_records(count: u32, used: &[Row], filed: &[u64], owners: &mut [usize]) -> bool
     requires { (length filed.now ≤ length owners.old) × (ascends used.now ≡ true) }
     ensures is { result ≡ (sorted filed.now && owned (held count 0 0 [] [] used.now filed.now)) }

@@ -25,7 +25,7 @@ fn is_clear<T: Copy + PartialEq>(part: &[T], zero: T) -> bool
     part.iter().fold(true, |clear, x| clear & (*x == zero))
 }
 
-// Have the tables their lengths, and zeros behind the items, the rows and the records?
+// Have the tables their lengths, and zeros behind the items, the rows and the records? `calls::is_fitting` looks at the same lengths, and says why.
 // `used` and `filed` are passed, since the caller needs them too.
 #[tactic(auto, using(crate::proofs::Shapes::first_most), unfolding(crate::specs::Shape::shaped))]
 pub fn has_shape(

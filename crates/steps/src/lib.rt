@@ -25,7 +25,7 @@ pub fn four(part: &[u8], at: usize) -> u32
     u32::from_le_bytes([part[at], part[at + 1], part[at + 2], part[at + 3]])
 }
 
-// How long a step of a kind is. The kinds have no enum of their own: it would have the names of `Step` again.
+// How long a step of a kind is. The kinds have no enum of their own: it would have the names of `Step` again. Each arm is data.
 #[tactic(auto, unfolding(crate::specs::Decoding::length_of))]
 fn length_of(kind: u8) -> Option<usize>
     ensures { MatchOption result (length_of kind ≡ 0) (λ n. (n ≡ length_of kind) × (0 < n)) }
@@ -88,7 +88,7 @@ pub fn count(file: &[u8]) -> usize
     if rest.is_empty() { n } else { n + 1 }
 }
 
-// Writes an answer's five bytes at a place.
+// Writes an answer's five bytes at a place of a buffer that is lent, in fixed memory, as `four` reads at one. The number is narrowed by `as`: the clause says that it fits.
 #[tactic(auto, using(crate::proofs::Puts::number_and_value))]
 pub fn put_answer(out: &mut [u8], at: usize, g: Given)
     requires { (at + 5 ≤ length out.old) × (g.number < 256) }

@@ -1,4 +1,5 @@
-// Rows that go lose their row and their records, and their latest versions pass into the value tables.
+// Rows that go lose their row and their records, and their latest versions pass into the value tables. The tables are parameters of their own, as in
+// `scheduler`.
 #![tactic(auto)]
 
 ghost use Rattle.std.specs.Prelude.{◌≡◌, ◌<◌, length, eqb, position};

@@ -11,6 +11,7 @@ use std::fmt;
 #[derive(Clone, Copy, Debug, Default, PartialEq, Eq, PartialOrd, Ord)]
 pub struct TxnNo(pub u32);
 
+// As an index it is widened by `as`, here and in every crate: there is no From between u32 and usize.
 #[derive(Clone, Copy, Debug, PartialEq, Eq)]
 pub struct ItemNo(pub u32);
 
@@ -77,7 +78,7 @@ pub enum Refusal {
 // What a call answers: accepted with its value, or refused.
 pub type Answer = Result<u32, Refusal>;
 
-// An answer's number and value, as the rules give them.
+// An answer's number and value, as the rules give them and an answer's bytes have them: 10 answers no call, so the number is no Refusal.
 #[derive(Clone, Copy, Debug, PartialEq, Eq)]
 pub struct Given {
     pub number: u32,
