@@ -35,7 +35,7 @@ fn full() -> Result<Board, Refusal> {
     Ok(board)
 }
 
-// The call that a byte of the input says. A byte has no enum: it is matched here alone.
+// The call that a byte of the input says. A byte has no enum: it is matched here alone, and each arm has other arguments.
 fn one(which: u8, board: &mut Board) -> Answer {
     match which {
         1 => open(board, 256, &[0; 256]),

@@ -62,7 +62,7 @@ fn board() -> [Change; 18] {
     ]
 }
 
-// What is changed in a case, by its number; in a few of them a second thing too.
+// What is changed in a case, by its number; in a few of them a second thing too. Each arm is data.
 fn spoil(k: u32) -> Option<Change> {
     let change = match k {
         // "order": rows and records out of order, and two of one number or key
@@ -224,6 +224,7 @@ impl Tables {
     }
 }
 
+// The number alone, in one line with others, so no Display.
 fn show_number(rt: &impl Print, a: Answer) -> io::Result<()> {
     let given = Given::from(a);
     print!(rt; "{} ", given.number)

@@ -10,7 +10,7 @@ use std::io;
 use tables::{records, rows, versions};
 use terms::{ItemNo, Moment, READ, Rec, Row, TxnNo, WRITE};
 
-// 1 for true, 0 for false.
+// 1 for true, 0 for false, where Display has words.
 fn flag(rt: &impl Print, b: bool) -> io::Result<()> {
     println!(rt; "{}", u8::from(b))
 }
