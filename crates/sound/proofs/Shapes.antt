@@ -7,6 +7,7 @@ use mathlib.Core.List.{List, [], ◌∷◌, ◌++◌}
 use lib.Dec.{eqb, leb}
 use lib.ListN.{length, get_or, take, drop, replicate, length-take, length-drop, length-map, take-append-drop}
 use borrow.Author.Tests.{eq-eqb, eqb-true, le-leb, leb-true}
+use Rattle.std.proofs.lemmas.Bool.{false_from_ne_true}
 use Rattle.terms.specs.declared.Row.{Row}
 use Rattle.terms.specs.Words.{done, num, start}
 use Rattle.rules.specs.Lists.{all, padded}
@@ -142,6 +143,11 @@ module _ (n m : ℕ) (w : Raw) where
       (and_both _ _ (filled_out is_zero 0 zero refl 256 count w.writers b ws)
       (and_both _ _ (filled_out zeroed zero_row zeroed_out zero-zeroed n used w.rows fr rs)
       (filled_out is_zero 0 zero refl m filed w.recs fp ps)))))))))
+
+  -- they have none with another number of rows
+  pub shape_not : (length w.rows ≡ n → ⊥) → shaped 256 n m used filed w ≡ false
+  unfolding shaped
+  shape_not h = false_from_ne_true _ (λ e. let v = simp and-eq-true_iff at e in h (eqb-true _ _ v.1.1.1.0))
 
   pub small : shaped 256 n m used filed w ≡ true → (state_of w).count ≤ 256
   unfolding shaped state_of

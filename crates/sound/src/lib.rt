@@ -47,6 +47,10 @@ pub fn is_tested(head: &[u32], values: &[u32], writers: &[u32], rows: &[Row], re
     ensures is { result ≡ tested_raw ROWS RECS (raw head.now values.now writers.now rows.now recs.now) }
     ensures rows { result ≡ true → length rows.now ≡ ROWS }
 {
+    // Before the used ones are counted, since a row table of any length may be lent.
+    if rows.len() != ROWS {
+        return false;
+    }
     let many = used(rows);
     let filed = used_recs(recs);
     if !has_shape(head, values, writers, rows, recs, many, filed) {

@@ -1,14 +1,20 @@
 -- `sound::is_tested` meets its contract: test after test. Assumes nothing.
-use Rattle.std.proofs.Common.{arith, rules, ◌≡◌, ◌≤◌, length, get_or, take, sym, ◌∙◌}
+use Rattle.std.proofs.Common.{arith, rules, ◌≡◌, ◌≤◌, length, get_or, take, refl, sym, ◌∙◌}
 use lib.Seq.{length-take-le}
 use Rattle.laws.proofs.Lists.{and_left}
 use Rattle.lists.proofs.Untils.{length-until}
 use Rattle.sound.specs.Shape.{no_row, raw}
-use Rattle.sound.proofs.Shapes.{first_most}
+use Rattle.sound.proofs.Shapes.{first_most, shape_not}
 use Rattle.sound.proofs.Standing.{rows_rise}
 use Rattle.sound.proofs.Tested.{tested_linked, tested_unheaded, tested_unrowed, tested_unshaped}
 use Rattle.sound.proofs.is_tested.Goals as goal
 use Rattle.sound.proofs.is_tested.Goals.{then-has_head, else-has_head}
+
+pub returns-then-rows-ne-ROWS-clause-is : goal.returns-then-rows-ne-ROWS-clause-is
+returns-then-rows-ne-ROWS-clause-is c =
+    let a = c.args in
+    let w = raw a.head.now a.values.now a.writers.now a.rows.now a.recs.now in
+    tested_unshaped 32 256 w _ _ refl refl (shape_not 32 256 w c.if-rows-ne-ROWS.true)
 
 pub returns-then-not-has_shape-clause-is : goal.returns-then-not-has_shape-clause-is
 returns-then-not-has_shape-clause-is c =
