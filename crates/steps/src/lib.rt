@@ -45,7 +45,10 @@ fn step_length(part: &[u8]) -> Option<usize>
     ensures { MatchOption result (whole part.now ≡ 0) (λ n. (n ≡ whole part.now) × (0 < n) × (n ≤ length part.now)) }
 {
     let n = length_of(*part.first()?)?;
-    (n <= part.len()).then_some(n)
+    if part.len() < n {
+        return None;
+    }
+    Some(n)
 }
 
 // The step that stands whole at the front. The kind is matched as a number, as in `length_of`.
