@@ -35,12 +35,12 @@ pub fn row_of(rows: &[Row], t: TxnNo) -> Row
         .unwrap_or_default()
 }
 
-// Is t the number of an active transaction? Number 0 is no transaction's.
+// Is t the number of an active transaction?
 pub fn is_active(rows: &[Row], t: TxnNo) -> bool
     ensures { result ≡ is_active (used_of rows.now [] [] []) t.0 }
 {
     rows.iter()
-        .take_while(|r| r.number != TxnNo(0))
+        .take_while(|r| r.number != TxnNo(0)) // Number 0 is no transaction's.
         .any(|r| r.number == t && r.active())
 }
 
