@@ -1,8 +1,8 @@
 -- Tests on the numbers below n: whether one of them passes, all their values as a list, and how many fail. Assumes nothing.
-use mathlib.Core.Path.{◌≡◌, refl, sym, ◌∙◌, subst}
+use mathlib.Core.Path.{◌≡◌, refl, sym, ap₂, ◌∙◌, subst}
 use mathlib.Core.Logic.{⊎_elim}
 use mathlib.Core.Bool.{Bool, true, false, not}
-use mathlib.Core.List.{map}
+use mathlib.Core.List.{◌∷◌, map}
 use Prim.Native.Nat.{ℕ, zero, suc, ◌+◌, ◌≤◌, ◌<◌}
 use native.Mathlib.Nat.{add-zero, add-suc, suc-add, zero-add}
 use native.Mathlib.Decide.{dec_lt, ℕ_discrete}
@@ -14,7 +14,7 @@ use Rattle.rules.specs.Lists.{any, upfrom}
 use Rattle.rules.specs.Graph.{Nodes}
 use Rattle.graph.specs.Reach.{tab, on}
 use Rattle.graph.specs.Visit.{unless, free}
-use Rattle.graph.proofs.Tests.{or_left, or_right, failed}
+use Rattle.graph.proofs.Tests.{or_left, or_right, failed, same}
 
 -- ---- one of them passes
 
@@ -58,6 +58,21 @@ on_lt n s i t = go (dec_lt i n)
     go : Dec (i < n) → i < n
     go (yes h) = h
     go (no h) = absurd (failed (get_or-eq_default (tab n s) false (omega (arith, length-map (upfrom 0 n) s, length-upfrom 0 n))) t)
+
+-- ---- tests that agree on them
+
+same_from : (n k : ℕ) (s r : Nodes) → ((i : ℕ) → k ≤ i → i < k + n → s i ≡ r i) → map s (upfrom k n) ≡ map r (upfrom k n)
+same_from zero k s r h = refl
+same_from (suc n) k s r h = ap₂ ◌∷◌ (h k (omega arith) (omega arith)) (same_from n (suc k) s r (λ i a b. h i (omega arith) (omega arith)))
+
+pub tab-same : (n : ℕ) (s r : Nodes) → ((i : ℕ) → i < n → s i ≡ r i) → tab n s ≡ tab n r
+tab-same n s r h = same_from n 0 s r (λ i a b. h i (omega arith))
+
+pub any_same : (n : ℕ) (s r : Nodes) → ((i : ℕ) → i < n → s i ≡ r i) → any s (upfrom 0 n) ≡ any r (upfrom 0 n)
+any_same n s r h =
+    same _ _
+    (λ t. let u = below_any n s t in any_below n r u.0 u.1 (subst T (h u.0 u.1) u.2))
+    (λ t. let u = below_any n r t in any_below n s u.0 u.1 (subst T (sym (h u.0 u.1)) u.2))
 
 -- ---- how many fail
 

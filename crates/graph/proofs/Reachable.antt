@@ -13,7 +13,7 @@ use Rattle.graph.specs.Reach.{Closed, Reached, tab, on, spread, reachable, ringe
 use Rattle.graph.specs.Visit.{free}
 use Rattle.graph.proofs.Tests.{failed, same, or_left, or_right}
 use Rattle.laws.proofs.Lists.{T_in}
-use Rattle.graph.proofs.Below.{any_below, below_any, on_tab, on_lt, free-le, free_falls, free-none}
+use Rattle.graph.proofs.Below.{any_below, below_any, any_same, tab-same, on_tab, on_lt, free-le, free_falls, free-none}
 use Rattle.graph.proofs.Ways.{closed_way}
 use Rattle.laws.proofs.Graph.{more}
 
@@ -136,3 +136,18 @@ module _ (n : ℕ) (e : Edges) (bound : (i j : ℕ) → T (e i j) → (i < n) ×
   -- where no node below n is on a ring, there is none
   pub acyclic : ((t : ℕ) → t < n → ringed n e t ≡ false) → (t : ℕ) → Reaches e t t → ⊥
   acyclic none t r = failed (none t (bound t r.0 r.1).0) ((ringed-is t).1 r)
+
+-- ---- edges and seeds count below n alone
+
+module _ (n : ℕ) (e f : Edges) (is : (i j : ℕ) → i < n → j < n → e i j ≡ f i j) where
+  spread_same : spread n e ≡ spread n f
+  unfolding spread
+  spread_same = λ k l. tab-same n _ _ (λ j h. ap (λ (b : Bool). on l j || b) (any_same n _ _ (λ i g. ap (λ (b : Bool). on l i && b) (is i j g h)))) k
+
+  pub reachable-same : (s r : Nodes) → ((i : ℕ) → i < n → s i ≡ r i) → reachable n e s ≡ reachable n f r
+  unfolding reachable
+  reachable-same s r h = λ k. on (times n (spread_same k) (tab-same n s r h k))
+
+  pub ringed-same : (t : ℕ) → t < n → ringed n e t ≡ ringed n f t
+  unfolding ringed
+  ringed-same t h = λ k. reachable-same (e t) (f t) (λ i g. is t i h g) k t

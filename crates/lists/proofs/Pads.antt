@@ -3,7 +3,9 @@ use Prim.Native.Nat.{ℕ, zero, suc, ◌+◌, ◌-◌, ◌≤◌, ◌<◌}
 use native.Mathlib.Omega.{arith}
 use mathlib.Core.Bool.{Bool, true, false, cond, ◌||◌}
 use mathlib.Core.Path.{◌≡◌, refl, sym, ap, ap₂, ◌∙◌}
-use mathlib.Core.List.{List, [], ◌∷◌, ◌++◌, map, map-append, append-nil, append_assoc}
+use mathlib.Core.Logic.{◌⊎◌, inl, inr}
+use mathlib.Core.List.Memᴰ
+use mathlib.Core.List.{List, [], ◌∷◌, ◌++◌, map, map-append, append-nil, append_assoc, Memᴰ}
 use lib.ListN.{length, get_or, take, set, replicate, length-append, length-replicate, length-set, length-map, replicate-append-replicate}
 use lib.Seq.{take-append_seam, take-append-add, set-append_left}
 use Rattle.rules.specs.Lists.{any, keep, until, padded}
@@ -43,6 +45,14 @@ module _ {A : Type 0} where
 
   pub get_or-padded : (n i : ℕ) (z : A) (xs : List A) → get_or (padded n z xs) i z ≡ get_or xs i z
   get_or-padded n i z xs = get_or-end (n - length xs) i z xs
+
+  mem_filled : (k : ℕ) {z x : A} → Memᴰ x (replicate k z) → x ≡ z
+  mem_filled zero m = elim m [ ]
+  mem_filled (suc k) m = elim (Memᴰ.cases_cons m) [ inl e ↦ e | inr r ↦ mem_filled k r ]
+
+  -- what stands behind the used part is the filler
+  pub mem-padded : (n : ℕ) (z : A) (xs : List A) {x : A} → Memᴰ x (padded n z xs) → Memᴰ x xs ⊎ (x ≡ z)
+  mem-padded n z xs m = elim (Memᴰ.append_cases xs m) [ inl u ↦ inl u | inr r ↦ inr (mem_filled (n - length xs) r) ]
 
   -- ---- what goes through the elements from the end, and passes over the filler, does not see the padding
   module _ {B : Type 0} (g : List A → B) (step : A → B → B) (cons : (x : A) (ys : List A) → g (x ∷ ys) ≡ step x (g ys)) (z : A) (blind : step z (g []) ≡ g []) where
