@@ -18,8 +18,9 @@ pub use Rattle.rules.specs.Graph.{Nodes, Edges, Way, Reaches, Cycle, Least}
 -- goes_on, concurrent: active or committed after a moment; each goes on after the other's start
 -- txn, item, rec, is_read, is_write, key: a record's transaction and item, a record, its kind, and what records are ordered by
 -- writer, version: a version's writer, and a version
--- given, paper, accepted: number and value; those of an answer; the number is 0
-pub use Rattle.terms.specs.Words.{num, start, done, row, active, committed, commit_at, stamp, goes_on, concurrent, txn, item, rec, is_read, is_write, key, writer, version, given, paper, accepted}
+-- Answer: what a call answers, a value or a refusal
+-- number_of, given, paper, accepted: a refusal's number; number and value; those of an answer; the number is 0
+pub use Rattle.terms.specs.Words.{num, start, done, row, active, committed, commit_at, stamp, goes_on, concurrent, txn, item, rec, is_read, is_write, key, writer, version, Answer, number_of, given, paper, accepted}
 -- State: count, next number, next moment, values, writers, rows, records
 -- opened, closed: the state as it is opened with values, and before any opening
 -- row_of, start_of, commit_of, is_active, commits: the row of a number, its moments, whether it is active, the committed ones
