@@ -2,7 +2,7 @@
 #![tactic(auto)]
 
 ghost use Rattle.std.specs.Prelude.{◌≡◌, ◌+◌, ◌≤◌, ◌<◌, length, MatchOption};
-ghost use Rattle.steps.specs.Decoding.{answers_of, decoded, field, kind_of, length_of, step_of, steps_of, whole};
+ghost use Rattle.steps.specs.Decoding.{answers_of, decoded, field, kind_of, step_of, steps_of, whole};
 ghost use Rattle.steps.specs.Answers.{answer_at};
 
 use terms::{Given, ItemNo, Step, TxnNo};
@@ -25,33 +25,32 @@ pub fn four(part: &[u8], at: usize) -> u32
     u32::from_le_bytes([part[at], part[at + 1], part[at + 2], part[at + 3]])
 }
 
-// How long a step of a kind is. The kinds have no enum of their own: it would have the names of `Step` again. Each arm is data.
-#[tactic(auto, unfolding(crate::specs::Decoding::length_of))]
-fn length_of(kind: u8) -> Option<usize>
-    ensures { MatchOption result (length_of kind ≡ 0) (λ n. (n ≡ length_of kind) × (0 < n)) }
+// A length, if the part is no shorter.
+fn fits(part: &[u8], n: usize) -> Option<usize>
+    ensures { MatchOption result (length part.now < n) (λ m. (m ≡ n) × (n ≤ length part.now)) }
 {
-    match kind {
-        0 | 4 | 5 | 6 => Some(3),
-        1 => Some(1),
-        2 => Some(5),
-        3 => Some(9),
-        _ => None,
-    }
-}
-
-// How long the step at the front of a part is, if its kind is known and its body is not cut.
-#[tactic(auto, unfolding(crate::specs::Decoding::whole, crate::specs::Decoding::length_of))]
-fn step_length(part: &[u8]) -> Option<usize>
-    ensures { MatchOption result (whole part.now ≡ 0) (λ n. (n ≡ whole part.now) × (0 < n) × (n ≤ length part.now)) }
-{
-    let n = length_of(*part.first()?)?;
     if part.len() < n {
         return None;
     }
     Some(n)
 }
 
-// The step that stands whole at the front. The kind is matched as a number, as in `length_of`.
+// How long the step at the front of a part is, if its kind is known and its body is not cut. The kinds have no enum of their own: it would have the
+// names of `Step` again. Each arm is data.
+#[tactic(auto, unfolding(crate::specs::Decoding::whole, crate::specs::Decoding::length_of))]
+fn step_length(part: &[u8]) -> Option<usize>
+    ensures { MatchOption result (whole part.now ≡ 0) (λ n. (n ≡ whole part.now) × (0 < n) × (n ≤ length part.now)) }
+{
+    match *part.first()? {
+        0 | 4 | 5 | 6 => fits(part, 3),
+        1 => fits(part, 1),
+        2 => fits(part, 5),
+        3 => fits(part, 9),
+        _ => None,
+    }
+}
+
+// The step that stands whole at the front. The kind is matched as a number, as in `step_length`.
 #[tactic(auto, using(crate::proofs::Bodies::room, crate::proofs::Bodies::last_kind), unfolding(crate::specs::Decoding::length_of, crate::specs::Decoding::step_of))]
 fn step_of(part: &[u8]) -> Step
     requires { 0 < whole part.now }
