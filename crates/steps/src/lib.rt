@@ -25,7 +25,8 @@ pub fn four(part: &[u8], at: usize) -> u32
     u32::from_le_bytes([part[at], part[at + 1], part[at + 2], part[at + 3]])
 }
 
-// A length, if the part is no shorter.
+// The length n, if the part has as many bytes. `step_length` calls it in each arm, and not once behind the match: the compiler would then look the length up
+// in a table, each step would wait for the one before, and counting the answers of a file would take nearly twice as long.
 fn fits(part: &[u8], n: usize) -> Option<usize>
     ensures { MatchOption result (length part.now < n) (λ m. (m ≡ n) × (n ≤ length part.now)) }
 {
@@ -36,7 +37,7 @@ fn fits(part: &[u8], n: usize) -> Option<usize>
 }
 
 // How long the step at the front of a part is, if its kind is known and its body is not cut. The kinds have no enum of their own: it would have the
-// names of `Step` again. Each arm is data.
+// names of `Step` again.
 #[tactic(auto, unfolding(crate::specs::Decoding::whole, crate::specs::Decoding::length_of))]
 fn step_length(part: &[u8]) -> Option<usize>
     ensures { MatchOption result (whole part.now ≡ 0) (λ n. (n ≡ whole part.now) × (0 < n) × (n ≤ length part.now)) }
